@@ -1,0 +1,473 @@
+// Reading: the numbers 1 to 11, each at its edge and one step before it.
+use crate::file::File;
+use crate::file::any;
+use crate::file::full;
+use crate::file::haul;
+use crate::file::link;
+use crate::file::linked;
+use crate::file::minus;
+use crate::file::ordinary;
+use crate::file::point;
+use crate::file::points;
+use crate::file::two_links;
+use crate::file::wait;
+use crate::say::reading;
+use plan::LINK;
+use plan::MOST_LINKS;
+use plan::MOST_ORDINARY;
+use plan::MOST_POINTS;
+use plan::MOST_RECORDS;
+use plan::MOST_WAITS;
+use plan::ORDINARY;
+use plan::POINT;
+use plan::RECORD_BYTES;
+use plan::WAIT;
+
+const FAR: u32 = plan::FARTHEST as u32;
+
+const RECORDS: u32 = MOST_RECORDS as u32;
+
+// 1, 2 and 3: the length.
+pub fn lengths() {
+    reading(b"no bytes", File::none());
+    reading(b"1 byte", points(1).of_length(1));
+    reading(b"15 bytes", points(1).of_length(RECORD_BYTES - 1));
+    reading(b"16 bytes", points(1));
+    reading(b"17 bytes", points(1).of_length(RECORD_BYTES + 1));
+    reading(b"360 points", points(RECORDS));
+    reading(b"361 points", points(RECORDS + 1));
+    reading(
+        b"a byte less than 361 points",
+        points(RECORDS + 1).of_length(RECORD_BYTES * (MOST_RECORDS + 1) - 1),
+    );
+    reading(
+        b"a byte more than 361 points",
+        points(RECORDS + 1).of_length(RECORD_BYTES * (MOST_RECORDS + 1) + 1),
+    );
+    reading(b"360 records of all kinds", full());
+    reading(b"361 records of all kinds", full().with(wait(9, 1, 1)));
+}
+
+// 4: the kind is known.
+pub fn known_kinds() {
+    reading(b"kind 0 first", File::none().with(any(0, 0, 0, 0, 0, 0, 0)));
+    reading(
+        b"kind 1 first",
+        File::none().with(any(POINT, 0, 0, 0, 0, 0, 0)),
+    );
+    reading(
+        b"kind 0 after a point",
+        points(1).with(any(0, 1, 0, 0, 0, 0, 0)),
+    );
+    reading(
+        b"kind 4 after a link",
+        linked().with(any(WAIT, 3, 2, 0, 35, 0, 0)),
+    );
+    reading(
+        b"kind 5 after a link",
+        linked().with(any(5, 3, 2, 0, 35, 0, 0)),
+    );
+    reading(
+        b"kind 255 after the haul",
+        haul().with(any(255, 0, 0, 0, 0, 0, 0)),
+    );
+}
+
+// 5: kinds never fall.
+pub fn kinds_in_order() {
+    reading(b"a point after a link", linked().with(point(4, 0)));
+    reading(
+        b"a link after an ordinary record",
+        points(4).with(ordinary(0, 0, 1)).with(link(1, 20, 50, 2)),
+    );
+    reading(
+        b"an ordinary record after a wait",
+        haul().with(ordinary(0, 0, 1)),
+    );
+    reading(b"a point after a wait", haul().with(point(4, 0)));
+    reading(b"a point after a point", points(1).with(point(1, 0)));
+    reading(b"a link after a link", linked().with(link(1, 20, 50, 3)));
+    reading(
+        b"an ordinary record after an ordinary record",
+        points(4).with(ordinary(0, 0, 1)).with(ordinary(0, 0, 1)),
+    );
+    reading(b"a wait after a wait", haul().with(wait(3, 2, 35)));
+    reading(
+        b"the 33rd point after an ordinary record",
+        points(MOST_POINTS)
+            .with(ordinary(0, 0, 1))
+            .with(point(32, 0)),
+    );
+}
+
+// 6: how many of each kind.
+pub fn counts() {
+    reading(b"32 points", points(MOST_POINTS));
+    reading(b"33 points", points(MOST_POINTS + 1));
+    reading(
+        b"8 links",
+        points(10).with_many(MOST_LINKS, link(0, 20, 50, 1), 0, 1),
+    );
+    reading(
+        b"9 links",
+        points(10).with_many(MOST_LINKS + 1, link(0, 20, 50, 1), 0, 1),
+    );
+    reading(
+        b"256 ordinary records",
+        points(4).with_many(MOST_ORDINARY, ordinary(0, 0, 1), 0, 0),
+    );
+    reading(
+        b"257 ordinary records",
+        points(4).with_many(MOST_ORDINARY + 1, ordinary(0, 0, 1), 0, 0),
+    );
+    reading(
+        b"64 waits",
+        linked().with_many(MOST_WAITS, wait(3, 2, 35), 0, 0),
+    );
+    reading(
+        b"65 waits",
+        linked().with_many(MOST_WAITS + 1, wait(3, 2, 35), 0, 0),
+    );
+    reading(
+        b"a 33rd point with byte 3 not zero",
+        points(MOST_POINTS).with(any(POINT, 32, 0, 1, 0, 0, 0)),
+    );
+}
+
+// 7: the fields that are zero, of a point and of a link.
+pub fn zeros_early() {
+    reading(
+        b"a point's byte 2",
+        points(4).with(any(POINT, 4, 1, 0, 0, 0, 0)),
+    );
+    reading(
+        b"a point's byte 3",
+        points(4).with(any(POINT, 4, 0, 1, 0, 0, 0)),
+    );
+    reading(
+        b"a point's first number",
+        points(4).with(any(POINT, 4, 0, 0, 1, 0, 0)),
+    );
+    reading(
+        b"a point's first number below zero",
+        points(4).with(any(POINT, 4, 0, 0, minus(1), 0, 0)),
+    );
+    reading(
+        b"a point's second number",
+        points(4).with(any(POINT, 4, 0, 0, 0, 1, 0)),
+    );
+    reading(
+        b"a point's second number's last bit",
+        points(4).with(any(POINT, 4, 0, 0, 0, 2147483648, 0)),
+    );
+    reading(
+        b"a point's code",
+        points(4).with(any(POINT, 4, 0, 0, 0, 0, 1)),
+    );
+    reading(
+        b"a link's byte 3",
+        points(4).with(any(LINK, 1, 2, 255, 20, 50, 0)),
+    );
+    reading(
+        b"a link's code",
+        points(4).with(any(LINK, 1, 2, 0, 20, 50, 1)),
+    );
+    reading(
+        b"a link without these",
+        points(4).with(any(LINK, 1, 2, 0, 20, 50, 0)),
+    );
+}
+
+// 7: the fields that are zero, of an ordinary record and of a wait; 7 comes before 8.
+pub fn zeros_late() {
+    reading(
+        b"an ordinary record's byte 3",
+        linked().with(any(ORDINARY, 1, 0, 1, 5, 0, 0)),
+    );
+    reading(
+        b"an ordinary record's second number",
+        linked().with(any(ORDINARY, 1, 0, 0, 5, 1, 0)),
+    );
+    reading(
+        b"an ordinary record's code",
+        linked().with(any(ORDINARY, 1, 0, 0, 5, 0, 16777216)),
+    );
+    reading(
+        b"an ordinary record without these",
+        linked().with(any(ORDINARY, 1, 0, 0, 5, 0, 0)),
+    );
+    reading(
+        b"a wait's byte 3",
+        linked().with(any(WAIT, 3, 2, 1, 35, 0, 0)),
+    );
+    reading(
+        b"a wait's second number",
+        linked().with(any(WAIT, 3, 2, 0, 35, minus(1), 0)),
+    );
+    reading(
+        b"a wait's code",
+        linked().with(any(WAIT, 3, 2, 0, 35, 0, 1)),
+    );
+    reading(
+        b"a wait without these",
+        linked().with(any(WAIT, 3, 2, 0, 35, 0, 0)),
+    );
+    reading(
+        b"a point's byte 3 and its number",
+        points(4).with(any(POINT, 5, 0, 1, 0, 0, 0)),
+    );
+    reading(
+        b"a link's code and its points",
+        points(4).with(any(LINK, 4, 4, 0, 20, 50, 1)),
+    );
+}
+
+// 8: a point's number is the next, and the points of a link are there.
+pub fn names_early() {
+    reading(b"point 1 first", File::none().with(point(1, 0)));
+    reading(b"point 3 after point 3", points(4).with(point(3, 0)));
+    reading(b"point 4 after point 3", points(4).with(point(4, 0)));
+    reading(b"point 5 after point 3", points(4).with(point(5, 0)));
+    reading(
+        b"a link before any point",
+        File::none().with(link(0, 20, 50, 1)),
+    );
+    reading(
+        b"a link from point 4 of 4",
+        points(4).with(link(4, 20, 50, 2)),
+    );
+    reading(
+        b"a link from point 3 of 4",
+        points(4).with(link(3, 20, 50, 2)),
+    );
+    reading(
+        b"a link to point 4 of 4",
+        points(4).with(link(1, 20, 50, 4)),
+    );
+    reading(
+        b"a link to point 3 of 4",
+        points(4).with(link(1, 20, 50, 3)),
+    );
+    reading(
+        b"a link from point 4 to point 4 of 4",
+        points(4).with(link(4, 20, 50, 4)),
+    );
+}
+
+// 8: the points of an ordinary record and of a wait are there; 8 comes before 9.
+pub fn names_late() {
+    reading(
+        b"an ordinary record from point 4 of 4",
+        points(4).with(ordinary(4, 5, 0)),
+    );
+    reading(
+        b"an ordinary record from point 3 of 4",
+        points(4).with(ordinary(3, 5, 0)),
+    );
+    reading(
+        b"an ordinary record to point 4 of 4",
+        points(4).with(ordinary(0, 5, 4)),
+    );
+    reading(
+        b"an ordinary record to point 3 of 4",
+        points(4).with(ordinary(0, 5, 3)),
+    );
+    reading(
+        b"an ordinary record from point 255 to point 255",
+        points(4).with(ordinary(255, 5, 255)),
+    );
+    reading(b"a wait of point 4 of 4", linked().with(wait(4, 2, 35)));
+    reading(b"a wait of point 3 of 4", linked().with(wait(3, 2, 35)));
+    reading(b"a wait on point 4 of 4", linked().with(wait(3, 4, 35)));
+    reading(
+        b"a wait of point 4 on point 4 of 4",
+        linked().with(wait(4, 4, 35)),
+    );
+}
+
+// 9: two points; it comes before 10 and 11.
+pub fn points_apart() {
+    reading(
+        b"a link from point 3 to point 3",
+        points(4).with(link(3, 20, 50, 3)),
+    );
+    reading(
+        b"an ordinary record from point 3 to point 3",
+        points(4).with(ordinary(3, 5, 3)),
+    );
+    reading(
+        b"a wait of point 2 on point 2",
+        linked().with(wait(2, 2, 35)),
+    );
+    reading(
+        b"a link from watched point 2 to point 2",
+        linked().with(link(2, 20, 50, 2)),
+    );
+    reading(
+        b"an ordinary record too far from point 3 to point 3",
+        points(4).with(ordinary(3, FAR + 1, 3)),
+    );
+}
+
+// 10: how a link joins the earlier ones; it comes before 11.
+pub fn links_joined() {
+    reading(
+        b"a link to the start of one",
+        linked().with(link(3, 20, 50, 1)),
+    );
+    reading(
+        b"a link to the end of one",
+        linked().with(link(0, 20, 50, 2)),
+    );
+    reading(
+        b"a link from the end of one",
+        linked().with(link(2, 20, 50, 3)),
+    );
+    reading(
+        b"a link from the start of one",
+        linked().with(link(1, 20, 50, 3)),
+    );
+    reading(b"a link apart from one", linked().with(link(0, 20, 50, 3)));
+    reading(
+        b"a link 20 to 20 to the end of one",
+        linked().with(link(0, 20, 20, 2)),
+    );
+}
+
+// 10: how a wait joins the links; it comes before 11.
+pub fn waits_joined() {
+    reading(
+        b"a wait on a point of no link",
+        linked().with(wait(3, 0, 35)),
+    );
+    reading(
+        b"a wait on the start of a link",
+        linked().with(wait(3, 1, 35)),
+    );
+    reading(
+        b"a wait on the end of a link",
+        linked().with(wait(3, 2, 35)),
+    );
+    reading(
+        b"a wait of a watched point",
+        two_links().with(wait(4, 2, 35)),
+    );
+    reading(
+        b"a wait of that link's start",
+        two_links().with(wait(1, 2, 35)),
+    );
+    reading(
+        b"a wait of another link's start",
+        two_links().with(wait(3, 2, 35)),
+    );
+    reading(
+        b"a wait 51 of that link's start",
+        two_links().with(wait(1, 2, 51)),
+    );
+}
+
+// 11: 1 <= x < y <= 100,000.
+pub fn link_bounds() {
+    reading(b"a link 0 to 50", points(4).with(link(1, 0, 50, 2)));
+    reading(b"a link 1 to 50", points(4).with(link(1, 1, 50, 2)));
+    reading(b"a link -1 to 50", points(4).with(link(1, minus(1), 50, 2)));
+    reading(b"a link 20 to 19", points(4).with(link(1, 20, 19, 2)));
+    reading(b"a link 20 to 20", points(4).with(link(1, 20, 20, 2)));
+    reading(b"a link 20 to 21", points(4).with(link(1, 20, 21, 2)));
+    reading(b"a link 20 to 100000", points(4).with(link(1, 20, FAR, 2)));
+    reading(
+        b"a link 20 to 100001",
+        points(4).with(link(1, 20, FAR + 1, 2)),
+    );
+    reading(
+        b"a link 99999 to 100000",
+        points(4).with(link(1, FAR - 1, FAR, 2)),
+    );
+    reading(
+        b"a link 100000 to 100000",
+        points(4).with(link(1, FAR, FAR, 2)),
+    );
+    reading(
+        b"a link 20 to -2147483648",
+        points(4).with(link(1, 20, minus(2147483648), 2)),
+    );
+}
+
+// 11: -100,000 <= d <= 100,000.
+pub fn ordinary_bounds() {
+    reading(
+        b"an ordinary record -100001",
+        points(4).with(ordinary(1, minus(FAR + 1), 0)),
+    );
+    reading(
+        b"an ordinary record -100000",
+        points(4).with(ordinary(1, minus(FAR), 0)),
+    );
+    reading(
+        b"an ordinary record -1",
+        points(4).with(ordinary(1, minus(1), 0)),
+    );
+    reading(b"an ordinary record 0", points(4).with(ordinary(1, 0, 0)));
+    reading(
+        b"an ordinary record 100000",
+        points(4).with(ordinary(1, FAR, 0)),
+    );
+    reading(
+        b"an ordinary record 100001",
+        points(4).with(ordinary(1, FAR + 1, 0)),
+    );
+    reading(
+        b"an ordinary record 2147483647",
+        points(4).with(ordinary(1, 2147483647, 0)),
+    );
+    reading(
+        b"an ordinary record -2147483648",
+        points(4).with(ordinary(1, minus(2147483648), 0)),
+    );
+}
+
+// 11: 1 <= w <= y, y that of the link that ends at C.
+pub fn wait_bounds() {
+    reading(b"a wait -1", linked().with(wait(3, 2, minus(1))));
+    reading(b"a wait 0", linked().with(wait(3, 2, 0)));
+    reading(b"a wait 1", linked().with(wait(3, 2, 1)));
+    reading(b"a wait 50", linked().with(wait(3, 2, 50)));
+    reading(b"a wait 51", linked().with(wait(3, 2, 51)));
+    reading(
+        b"a wait 50 beside a longer link",
+        two_links().with(wait(0, 2, 50)),
+    );
+    reading(
+        b"a wait 51 beside a longer link",
+        two_links().with(wait(0, 2, 51)),
+    );
+    reading(
+        b"a wait 60 on the longer link",
+        two_links().with(wait(0, 4, 60)),
+    );
+    reading(
+        b"a wait 61 on the longer link",
+        two_links().with(wait(0, 4, 61)),
+    );
+}
+
+// The first bad record counts, not the lowest number.
+pub fn first_bad() {
+    reading(
+        b"11 and then 4",
+        points(4)
+            .with(link(1, 20, 20, 2))
+            .with(any(0, 0, 0, 0, 0, 0, 0)),
+    );
+    reading(
+        b"4 and then 11",
+        points(4)
+            .with(any(0, 0, 0, 0, 0, 0, 0))
+            .with(link(1, 20, 20, 2)),
+    );
+    reading(
+        b"7 in the last record of the haul and one",
+        haul().with(any(WAIT, 3, 2, 1, 35, 0, 0)),
+    );
+    reading(b"the haul", haul());
+}

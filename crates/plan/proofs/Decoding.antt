@@ -1,13 +1,13 @@
 -- The loop that decodes a file: what it has filled after i records, at its start, after a turn and at its end. Assumes nothing.
 use mathlib.Core.Path.{_≡_, refl, sym, ap, _∙_}
-use mathlib.Core.List.{List, [], _∷_, _++_, map, map-append, append-assoc}
-use Prim.Native.Nat.{ℕ, zero, suc, _+_, _*_, _-_, _≤_, _<_}
+use mathlib.Core.List.{List, [], _∷_, _++_, map, map-append}
+use Prim.Native.Nat.{ℕ, zero, suc, _+_, _*_, _-_, _<_}
 use native.Mathlib.Omega.{arith}
 use native.Mathlib.Numerals.{add-one}
 use lib.ListN.{length, drop, getD, set, replicate, length-map}
 use lib.Seq.{getD-drop, drop-drop, set-at, append-snoc}
 use Rattle.plan.specs.Limits.{mostRecords, recordBytes}
-use Rattle.plan.specs.APlan.{blank, planOf}
+use Rattle.plan.specs.APlan.{blank}
 use Rattle.plan.specs.PlanFile.{Entry, recordIn, entriesIn}
 use Rattle.plan.specs.Inside.{decodedOf}
 use Rattle.plan.proofs.Entries.{length-entries}

@@ -1,11 +1,11 @@
 -- The loop that writes a plan's records: the buffer after i of them, and a turn. Assumes nothing.
 use mathlib.Core.Path.{_≡_, refl, sym, ap, _∙_}
 use mathlib.Core.List.{List, [], _∷_, _++_, append-nil, append-assoc}
-use Prim.Native.Nat.{ℕ, zero, suc, _+_, _*_, _≤_, _<_}
+use Prim.Native.Nat.{ℕ, _+_, _*_, _<_}
 use native.Mathlib.Omega.{arith}
 use native.Mathlib.Numerals.{add-one}
 use lib.ListN.{length, take, drop, getD}
-use lib.Seq.{paste, take-at, drop-append-add, drop-drop, take-suc, take-all, length-take-le}
+use lib.Seq.{paste, take-at, drop-append-add, drop-drop, take-suc, length-take-le}
 use Rattle.plan.specs.Limits.{recordBytes}
 use Rattle.plan.specs.APlan.{blank}
 use Rattle.plan.specs.PlanFile.{bytesOf, allBytes}

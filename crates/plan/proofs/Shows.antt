@@ -13,7 +13,7 @@ use Rattle.points.specs.Sets.{member, withOf}
 use Rattle.points.specs.Laws.{member-with, member-empty}
 use Rattle.plan.specs.Choice.{if_then_else_}
 use Rattle.plan.specs.Limits.{mostPoints}
-use Rattle.plan.specs.APlan.{Kind, point, link, ordinary, wait, unknown, kindOf, byteOf, is, one, howMany, some, points, starts, watched, startsAt, endsAt, firstThat, linkTo, blank}
+use Rattle.plan.specs.APlan.{Kind, point, link, ordinary, wait, unknown, kindOf, byteOf, is, one, howMany, some, points, starts, watched, startsAt, endsAt, firstThat, linkTo}
 use Rattle.plan.specs.ReplyNumbers.{Before, after, isKnown, lastKind, inOrder, roomFor, zeros, named, apart, joined, bounded, numberFor, numberOf}
 use Rattle.plan.specs.Inside.{told, noEnding, fresh, withRecord, endingAfter}
 use Rattle.plan.proofs.ByKind.{is-unknown}

@@ -1,9 +1,9 @@
 -- The loop over the records: what holds after the first i entries, that it holds at the start, that a turn keeps it, and
 -- what it gives at a bad record and at the end. Assumes nothing.
-use mathlib.Core.Path.{_≡_, refl, sym, ap, _∙_}
+use mathlib.Core.Path.{_≡_, refl, _∙_}
 use mathlib.Core.Bool.{Bool, true, false}
 use mathlib.Core.List.{List, [], _∷_, _++_, map, map-append}
-use Prim.Native.Nat.{ℕ, zero, suc, _+_, _%_, _≤_, _<_}
+use Prim.Native.Nat.{ℕ, suc, _+_, _%_, _≤_, _<_}
 use native.Mathlib.Omega.{arith}
 use native.Mathlib.Numerals.{add-one}
 use lib.Dec.{eqb}
@@ -16,12 +16,11 @@ use Rattle.plan.specs.APlan.{point, link, ordinary, wait, is, howMany, o
 use Rattle.plan.specs.PlanFile.{Entry}
 use Rattle.plan.specs.ReplyNumbers.{after, numberOf, firstBad, refusal, accepted}
 use Rattle.plan.specs.Held.{plain}
-use Rattle.plan.specs.Inside.{Few, fresh, told, noEnding, withRecord, endingAfter, oneOf, numberIn}
+use Rattle.plan.specs.Inside.{Few, fresh, told, noEnding, withRecord, endingAfter, oneOf}
 use Rattle.plan.proofs.Shows.{Shows, shows-none, same-number, shows-more}
 use Rattle.plan.specs.declared.Record.{Record}
 use Rattle.plan.specs.declared.rules.Seen.{Seen}
 use Rattle.plan.specs.declared.rules.Ending.{Ending}
-use Rattle.plan.specs.declared.rules.One.{One}
 use Rattle.plan.specs.declared.rules.One.the-variants.{Good, Bad}
 
 abbrev pub whats : List Entry → List Record

@@ -1,6 +1,6 @@
 -- What the functions behind `read`, `check` and `write` compute. A reader of the rules can leave this page out: the open
 -- functions' contracts do not cite it. Assumes nothing.
-use mathlib.Core.Bool.{Bool, true, false, not}
+use mathlib.Core.Bool.{not}
 use mathlib.Core.List.{List, [], _∷_, _++_, map}
 use Prim.Native.Nat.{ℕ, _+_, _-_, _≤_}
 use lib.Dec.{eqb}

@@ -1,8 +1,8 @@
 -- Document 01, "Reply numbers", 1 to 12: what a record is refused for, and what reading, checking and writing answer.
 -- Number 0 is no number of the document: it says that nothing is refused. Assumes nothing.
-use mathlib.Core.Bool.{Bool, true, false, not, _&&_, _||_}
+use mathlib.Core.Bool.{Bool, true, false, not, _&&_}
 use mathlib.Core.List.{List, [], _∷_, _++_, map}
-use Prim.Native.Nat.{ℕ, zero, suc, _+_, _-_, _*_, _/_, _%_}
+use Prim.Native.Nat.{ℕ, _*_, _/_, _%_}
 use lib.Dec.{eqb, ltb, leb}
 use lib.IntN.{ℤ, pos, negsuc, negℤ}
 use lib.Signed.{leZ, ltZ}

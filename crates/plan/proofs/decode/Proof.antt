@@ -1,8 +1,8 @@
 -- `plan::decode` meets its contract. Assumes nothing.
 use borrow.Author.Needs.{needs}
 use native.Mathlib.Omega.{arith}
-use mathlib.Core.Path.{_≡_, refl, sym, ap, _∙_}
-use Prim.Native.Nat.{ℕ, _≤_, _<_, _-_, _*_}
+use mathlib.Core.Path.{_≡_, refl, ap}
+use Prim.Native.Nat.{_≤_, _<_, _-_, _*_}
 use lib.ListN.{length, take, drop, length-set, length-drop}
 use Rattle.plan.specs.Limits.{mostRecords, recordBytes}
 use Rattle.plan.specs.declared.Plan.{Plan}

@@ -1,10 +1,9 @@
 -- `plan::points_of` meets its contract. Assumes nothing.
 use borrow.Author.Needs.{needs}
-use borrow.Author.Tests.{eq-eqb, ne-eqb, lt-ltb, le-ltb}
-use mathlib.Core.Path.{_≡_, refl, sym, ap, _∙_}
+use mathlib.Core.Path.{_≡_, refl, _∙_}
 use native.Mathlib.Omega.{arith}
-use Prim.Native.Nat.{ℕ, _≤_, _<_, _-_, min}
-use lib.ListN.{length, take, drop, length-map}
+use Prim.Native.Nat.{_≤_, _<_, _-_, min}
+use lib.ListN.{length, take, length-map}
 use Rattle.plan.specs.Limits.{mostRecords}
 use Rattle.plan.specs.APlan.{point, is, howMany, recordsOf}
 use Rattle.plan.proofs.Lookup.{used-records, record-at, counted-more, counted-few, counted-end}

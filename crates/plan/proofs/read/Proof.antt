@@ -1,7 +1,7 @@
 -- `plan::read` meets its contract. Assumes nothing.
 use borrow.Author.Needs.{needs}
 use borrow.Author.Tests.{eq-eqb, ne-eqb, lt-ltb, le-ltb}
-use mathlib.Core.Path.{_≡_, refl, sym, ap, _∙_}
+use mathlib.Core.Path.{_≡_, ap, _∙_}
 use Rattle.plan.specs.ReplyNumbers.{firstBad, readOf}
 use Rattle.plan.specs.PlanFile.{Entry, entriesIn}
 use native.Mathlib.Omega.{arith}

@@ -1,8 +1,5 @@
 -- `plan::refuse` meets its contract. Assumes nothing.
 use borrow.Author.Needs.{needs}
-use mathlib.Core.Path.{ap}
-use Rattle.plan.specs.declared.Plan.{Plan}
-use Rattle.plan.specs.declared.Reading.{Reading}
 use Rattle.plan.proofs.refuse.Statement.{statement}
 use Rattle.plan.proofs.refuse.Tie as tie
 

@@ -2,7 +2,7 @@
 use borrow.Author.Needs.{needs}
 use native.Mathlib.Omega.{arith}
 use borrow.Author.Tests.{eq-eqb, ne-eqb, lt-ltb, le-ltb}
-use mathlib.Core.Path.{_≡_, refl, sym, ap, _∙_}
+use mathlib.Core.Path.{_≡_, sym, _∙_}
 use Rattle.plan.specs.ReplyNumbers.{checkOf}
 use Rattle.plan.proofs.Writing.{write-refused, write-short, write-done}
 use Rattle.plan.proofs.RoundTrip.{checked-count, names-no-place}

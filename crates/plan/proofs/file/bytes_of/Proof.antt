@@ -1,15 +1,11 @@
 -- `plan::file::bytes_of` meets its contract. Assumes nothing.
-use native.Mathlib.Omega.{arith}
 use borrow.Author.Needs.{needs, sfits-of}
-use mathlib.Core.Path.{_≡_, refl}
+use mathlib.Core.Path.{_≡_}
 use mir.Syntax.{w32}
 use mir.ValLaws.{toZ-ofZ}
 use Rattle.plan.specs.PlanFile.{bitsOf, bytesOf}
 use Rattle.plan.proofs.file.bytes_of.Statement.{statement}
 use Rattle.plan.proofs.file.bytes_of.Tie as tie
-use Rattle.plan.proofs.file.bytes_of.Reads as reads
-use Rattle.plan.proofs.file.bytes_of.Lts as lts
-use Rattle.plan.proofs.numbers.bits.Reads as bits-reads
 
 bits-requires : tie.Need-bits-requires
 bits-requires c κs = search needs

@@ -9,8 +9,6 @@ use lib.Seq.{paste, paste-zero, paste-suc}
 use Rattle.plan.specs.Limits.{recordBytes}
 use Rattle.plan.proofs.file.put.Statement.{statement}
 use Rattle.plan.proofs.file.put.Tie as tie
-use Rattle.plan.proofs.file.put.Reads as reads
-use Rattle.plan.proofs.file.put.Lts as lts
 
 abbrev Inv-loop : tie.InvT-loop
 Inv-loop out₀ at e k₀ out k = (k ≤ recordBytes) × (length out ≡ length out₀) × (out ≡ paste out₀ at e k)

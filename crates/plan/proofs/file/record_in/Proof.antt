@@ -1,14 +1,9 @@
 -- `plan::file::record_in` meets its contract. Assumes nothing.
-use native.Mathlib.Omega.{arith}
 use borrow.Author.Needs.{needs, sfits-of}
 use mir.Syntax.{w32}
 use mir.ValLaws.{toZ-ofZ}
 use Rattle.plan.proofs.file.record_in.Statement.{statement}
 use Rattle.plan.proofs.file.record_in.Tie as tie
-use Rattle.plan.proofs.file.record_in.Reads as reads
-use Rattle.plan.proofs.file.record_in.Lts as lts
-use Rattle.plan.proofs.numbers.signed.Reads as signed-reads
-use Rattle.plan.proofs.numbers.word_at.Reads as word-at-reads
 
 shared-slice-read-t3 : tie.Need-shared-slice-read-t3
 shared-slice-read-t3 c = search needs

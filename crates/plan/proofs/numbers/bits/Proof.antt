@@ -1,6 +1,6 @@
 -- `plan::numbers::bits` meets its contract. Assumes nothing.
 use native.Mathlib.Omega.{arith}
-use mathlib.Core.Path.{_≡_, refl}
+use mathlib.Core.Path.{_≡_}
 use Prim.Native.Nat.{_<_, _^_}
 use lib.IntN.{pos, negsuc, _-ℤ_}
 use lib.Signed.{mag}

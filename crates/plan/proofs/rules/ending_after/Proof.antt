@@ -1,5 +1,4 @@
 -- `plan::rules::ending_after` meets its contract. Assumes nothing.
-use borrow.Author.Needs.{needs}
 use borrow.Author.Tests.{eq-eqb, ne-eqb}
 use borrow.Author.Needs.{sfits-of}
 use mir.Syntax.{w32}

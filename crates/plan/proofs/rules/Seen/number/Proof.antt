@@ -1,6 +1,6 @@
 -- `plan::rules::Seen::number` meets its contract. Assumes nothing.
 use borrow.Author.Needs.{needs}
-use mathlib.Core.Path.{refl, ap, sym}
+use mathlib.Core.Path.{refl, ap}
 use Rattle.plan.specs.APlan.{kindOf, point, link, ordinary, wait}
 use Rattle.plan.specs.Inside.{told}
 use Rattle.plan.proofs.ByKind.{known, is-unknown, not-known}

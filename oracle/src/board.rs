@@ -1,0 +1,234 @@
+//! The board, its windows, and the reply to a board.
+
+use crate::plan::{Link, Plan, BOUND};
+use crate::Refusal;
+
+/// Places on a board.
+pub const PLACES: usize = 32;
+
+#[derive(Clone, Copy, PartialEq, Eq, Debug)]
+pub struct Board {
+    pub clock: u32,
+    pub done: u32,
+    pub minutes: [u32; PLACES],
+}
+
+impl Board {
+    /// The fresh board: all zero.
+    pub fn fresh() -> Board {
+        Board {
+            clock: 0,
+            done: 0,
+            minutes: [0; PLACES],
+        }
+    }
+
+    pub fn clock(&self) -> i64 {
+        i64::from(self.clock)
+    }
+
+    pub fn is_done(&self, point: usize) -> bool {
+        self.done >> point & 1 == 1
+    }
+
+    pub fn minute(&self, point: usize) -> i64 {
+        i64::from(self.minutes[point])
+    }
+
+    /// The number of done points: the number of ones in the set.
+    pub fn count(&self) -> u32 {
+        (0..PLACES).filter(|&point| self.is_done(point)).count() as u32
+    }
+}
+
+/// Are all points of the plan done?
+pub fn all_done(plan: &Plan, board: &Board) -> bool {
+    (0..plan.points()).all(|point| board.is_done(point))
+}
+
+/// A running link: A done, C not.
+pub fn is_running(board: &Board, link: &Link) -> bool {
+    board.is_done(link.a) && !board.is_done(link.c)
+}
+
+/// Is the board sound for the plan?
+pub fn sound(plan: &Plan, board: &Board) -> bool {
+    // Done points are in the plan.
+    if (plan.points()..PLACES).any(|point| board.is_done(point)) {
+        return false;
+    }
+    // A point not done holds 0.
+    if (0..PLACES).any(|point| !board.is_done(point) && board.minute(point) != 0) {
+        return false;
+    }
+    // Minutes are between 0 and the clock.
+    if (0..PLACES).any(|point| board.minute(point) > board.clock()) {
+        return false;
+    }
+    // The clock is the largest done minute, or 0 with none done.
+    let done = (0..PLACES).filter(|&point| board.is_done(point));
+    let largest = done.map(|point| board.minute(point)).max();
+    if board.clock() != largest.unwrap_or(0) {
+        return false;
+    }
+    // A done watched point has its A done and its duration in bounds.
+    for link in plan.links.iter().filter(|link| board.is_done(link.c)) {
+        let duration = board.minute(link.c) - board.minute(link.a);
+        if !board.is_done(link.a) || !(link.x..=link.y).contains(&duration) {
+            return false;
+        }
+    }
+    // A running link has A + y ≥ clock.
+    for link in plan.links.iter().filter(|link| is_running(board, link)) {
+        if board.minute(link.a) + link.y < board.clock() {
+            return false;
+        }
+    }
+    // Clock ≤ 100,000 × the number of done points.
+    board.clock() <= BOUND * i64::from(board.count())
+}
+
+/// Open: a foreman's point not yet done; every ordinary record from it with negative d points to
+/// a done point, and each wait on it has its A done.
+pub fn is_open(plan: &Plan, board: &Board, v: usize) -> bool {
+    if plan.watched(v) || board.is_done(v) {
+        return false;
+    }
+    let mut from_v = plan
+        .ordinary
+        .iter()
+        .filter(|record| record.x == v && record.d < 0);
+    let mut on_v = plan.waits.iter().filter(|wait| wait.v == v);
+    from_v.all(|record| board.is_done(record.y))
+        && on_v.all(|wait| board.is_done(plan.link_of(wait).a))
+}
+
+/// Low: the largest of 0, the clock, Y − d over records (v, d, Y) with Y done, and A + w over
+/// waits on v whose link is running.
+pub fn low(plan: &Plan, board: &Board, v: usize) -> i64 {
+    let mut low = board.clock().max(0);
+    for record in &plan.ordinary {
+        if record.x == v && board.is_done(record.y) {
+            low = low.max(board.minute(record.y) - record.d);
+        }
+    }
+    for wait in plan.waits.iter().filter(|wait| wait.v == v) {
+        let link = plan.link_of(wait);
+        if is_running(board, &link) {
+            low = low.max(board.minute(link.a) + wait.w);
+        }
+    }
+    low
+}
+
+/// High: the least X + d over records (X, d, v) with X done, negative d included.
+pub fn high(plan: &Plan, board: &Board, v: usize) -> Option<i64> {
+    let to_v = plan
+        .ordinary
+        .iter()
+        .filter(|record| record.y == v && board.is_done(record.x));
+    to_v.map(|record| board.minute(record.x) + record.d).min()
+}
+
+/// The open points, in order.
+pub fn open_points(plan: &Plan, board: &Board) -> Vec<usize> {
+    (0..plan.points())
+        .filter(|&v| is_open(plan, board, v))
+        .collect()
+}
+
+/// H: the least High of all open points. It can be below zero.
+pub fn least_high(plan: &Plan, board: &Board) -> Option<i64> {
+    let open = open_points(plan, board);
+    open.iter().filter_map(|&v| high(plan, board, v)).min()
+}
+
+/// The latest: the lesser of H and clock + 100,000.
+pub fn latest(plan: &Plan, board: &Board) -> i64 {
+    let furthest = board.clock() + BOUND;
+    match least_high(plan, board) {
+        Some(h) if h < furthest => h,
+        _ => furthest,
+    }
+}
+
+#[derive(Clone, Copy, PartialEq, Eq, Debug)]
+pub enum Outcome {
+    Finished,
+    Stuck,
+    Waiting,
+    Offers,
+}
+
+/// What the reply says of one point.
+#[derive(Clone, Copy, PartialEq, Eq, Debug)]
+pub enum Place {
+    Done(i64),
+    Watched,
+    Shut,
+    Held,
+    Offered(i64),
+}
+
+/// The reply to a sound board. Without an offer the latest is 0 and every place is shut.
+#[derive(Clone, Copy, PartialEq, Eq, Debug)]
+pub struct Reply {
+    pub outcome: Outcome,
+    pub latest: i64,
+    pub places: [Place; PLACES],
+}
+
+/// The outcome for a sound board.
+pub fn outcome(plan: &Plan, board: &Board) -> Outcome {
+    if all_done(plan, board) {
+        return Outcome::Finished;
+    }
+    let open = open_points(plan, board);
+    let running = plan.links.iter().any(|link| is_running(board, link));
+    let all_above = match least_high(plan, board) {
+        Some(h) => open.iter().all(|&v| low(plan, board, v) > h),
+        None => false,
+    };
+    if open.is_empty() && !running || !open.is_empty() && all_above {
+        return Outcome::Stuck;
+    }
+    if open.is_empty() {
+        Outcome::Waiting
+    } else {
+        Outcome::Offers
+    }
+}
+
+/// The reply to a board, or 20.
+pub fn reply(plan: &Plan, board: &Board) -> Result<Reply, Refusal> {
+    if !sound(plan, board) {
+        return Err((20, 0));
+    }
+    let outcome = outcome(plan, board);
+    let mut reply = Reply {
+        outcome,
+        latest: 0,
+        places: [Place::Shut; PLACES],
+    };
+    if outcome == Outcome::Offers {
+        reply.latest = latest(plan, board);
+        for point in 0..plan.points() {
+            reply.places[point] = place(plan, board, point, reply.latest);
+        }
+    }
+    Ok(reply)
+}
+
+fn place(plan: &Plan, board: &Board, point: usize, latest: i64) -> Place {
+    if board.is_done(point) {
+        Place::Done(board.minute(point))
+    } else if plan.watched(point) {
+        Place::Watched
+    } else if !is_open(plan, board, point) {
+        Place::Shut
+    } else if low(plan, board, point) > latest {
+        Place::Held
+    } else {
+        Place::Offered(low(plan, board, point))
+    }
+}

@@ -1,0 +1,13 @@
+//! An independent program for the rules of document 01, written from those rules alone, to be
+//! compared byte for byte with the proved one. All arithmetic is signed, in `i64`.
+
+pub mod board;
+pub mod by_value;
+pub mod event;
+pub mod plan;
+pub mod plan_test;
+pub mod text;
+pub mod verdict;
+
+/// A reply number and the record beside it; 0 where the number has no record of its own.
+pub type Refusal = (u32, u32);

@@ -1,0 +1,142 @@
+//! The printing program and the longer print of offers.
+
+use crate::board::{self, Board, Outcome, Place};
+use crate::event;
+use crate::plan::{self, Plan, RECORD, ROOM};
+use crate::plan_test::{self, Answer};
+use crate::verdict::{self, Verdict};
+use std::io::{self, ErrorKind, Read, Write};
+
+/// The record that ends the plan part.
+const MARK: [u8; RECORD] = [255; RECORD];
+
+/// The next record; fewer than 16 bytes only at the end of the input.
+fn next_record(input: &mut impl Read) -> io::Result<Vec<u8>> {
+    let mut record = vec![0; RECORD];
+    let mut have = 0;
+    while have < RECORD {
+        match input.read(&mut record[have..]) {
+            Ok(0) => break,
+            Ok(more) => have += more,
+            Err(error) if error.kind() == ErrorKind::Interrupted => {}
+            Err(error) => return Err(error),
+        }
+    }
+    record.truncate(have);
+    Ok(record)
+}
+
+/// The plan part: the records before the first record of 255, else the whole input. Of too many
+/// records one too many is kept, which gives the same reply.
+fn plan_part(input: &mut impl Read) -> io::Result<Vec<u8>> {
+    let mut bytes = Vec::new();
+    loop {
+        let record = next_record(input)?;
+        if record == MARK {
+            return Ok(bytes);
+        }
+        let whole = record.len() == RECORD;
+        if !whole || bytes.len() <= ROOM * RECORD {
+            bytes.extend(record);
+        }
+        if !whole {
+            return Ok(bytes);
+        }
+    }
+}
+
+/// The program of document 01.
+pub fn sheet(input: &mut impl Read, output: &mut impl Write) -> io::Result<()> {
+    run(input, output, false)
+}
+
+/// The same input, with the plan test and every reply printed.
+pub fn offers(input: &mut impl Read, output: &mut impl Write) -> io::Result<()> {
+    run(input, output, true)
+}
+
+fn run(input: &mut impl Read, output: &mut impl Write, full: bool) -> io::Result<()> {
+    let plan = match plan::read(&plan_part(input)?) {
+        Ok(plan) => plan,
+        Err((number, record)) => {
+            writeln!(output, "plan {number} {record}")?;
+            return output.flush();
+        }
+    };
+    let mut board = Board::fresh();
+    if full {
+        print_test(&plan, output)?;
+        print_board(&plan, &board, output)?;
+    }
+    let mut k: u64 = 0;
+    // After a plan part that the end of the input ended, this finds nothing more.
+    let left_over = loop {
+        let record = next_record(input)?;
+        if record.len() < RECORD {
+            break record;
+        }
+        let (number, after) = event::take(&plan, &board, &record);
+        board = after;
+        if full {
+            writeln!(output, "event {k} {number}")?;
+            print_board(&plan, &board, output)?;
+        } else {
+            writeln!(output, "{k} {number} {} {}", board.clock, board.count())?;
+        }
+        k += 1;
+    };
+    if !left_over.is_empty() {
+        writeln!(output, "tail")?;
+    }
+    writeln!(output, "end {}", end(&plan, &board))?;
+    output.flush()
+}
+
+/// What stands after `end`.
+fn end(plan: &Plan, board: &Board) -> String {
+    match verdict::verdict(plan, board) {
+        Ok(Verdict::Kept) => "kept".to_string(),
+        Ok(Verdict::Broken(record)) => format!("broken {record}"),
+        Err(_) => match board::outcome(plan, board) {
+            Outcome::Stuck => "stuck".to_string(),
+            _ => "open".to_string(),
+        },
+    }
+}
+
+fn print_test(plan: &Plan, output: &mut impl Write) -> io::Result<()> {
+    match plan_test::plan_test(plan) {
+        Ok(Answer::Yes(count)) => writeln!(output, "test yes {count}"),
+        Ok(Answer::Cycle(p)) => writeln!(output, "test cycle {p}"),
+        Ok(Answer::Pair(p, x, y)) => writeln!(output, "test pair {p} {x} {y}"),
+        Err((number, _)) => writeln!(output, "test {number}"),
+    }
+}
+
+fn print_board(plan: &Plan, board: &Board, output: &mut impl Write) -> io::Result<()> {
+    write!(output, "board {} {} ", board.clock, board.count())?;
+    let reply = match board::reply(plan, board) {
+        Ok(reply) => reply,
+        // Boards reached by events are sound; were one not, it would show.
+        Err((number, _)) => return writeln!(output, "refused {number}"),
+    };
+    match reply.outcome {
+        Outcome::Finished => writeln!(output, "finished"),
+        Outcome::Stuck => writeln!(output, "stuck"),
+        Outcome::Waiting => writeln!(output, "waiting"),
+        Outcome::Offers => {
+            writeln!(output, "offers {}", reply.latest)?;
+            for (point, (pond, place)) in plan.ponds.iter().zip(reply.places).enumerate() {
+                write!(output, "point {point} {pond} ")?;
+                match place {
+                    Place::Done(minute) => writeln!(output, "done {minute}")?,
+                    Place::Watched => writeln!(output, "watched")?,
+                    Place::Shut => writeln!(output, "shut")?,
+                    Place::Held => writeln!(output, "held")?,
+                    Place::Offered(low) => writeln!(output, "offered {low}")?,
+                }
+            }
+            Ok(())
+        }
+    }
+}

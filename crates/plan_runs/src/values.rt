@@ -78,44 +78,38 @@ fn link_record(a: u8, x: i32, y: i32, c: u8, code: u32) -> Record {
     }
 }
 
+// What check says of the haul with another count.
+fn check_count(name: &[u8], count: u32) {
+    reply(name, plan::check(haul_of(count)));
+}
+
+// What check says of the haul with another record at place i.
+fn check_record(name: &[u8], i: usize, r: Record) {
+    reply(name, plan::check(haul_with(i, r)));
+}
+
 pub fn checks() {
-    reply(b"check the haul", plan::check(haul_of(HAUL_RECORDS)));
-    reply(b"check count 0", plan::check(haul_of(0)));
-    reply(b"check count 1", plan::check(haul_of(1)));
-    reply(
-        b"check a record of unused room",
-        plan::check(haul_of(HAUL_RECORDS + 1)),
-    );
-    reply(b"check count 360", plan::check(haul_of(RECORDS)));
-    reply(b"check count 361", plan::check(haul_of(RECORDS + 1)));
-    reply(b"check count 4294967295", plan::check(haul_of(4294967295)));
-    reply(
-        b"check garbage in the first unused room",
-        plan::check(haul_with(9, garbage(255))),
-    );
-    reply(
+    check_count(b"check the haul", HAUL_RECORDS);
+    check_count(b"check count 0", 0);
+    check_count(b"check count 1", 1);
+    check_count(b"check a record of unused room", HAUL_RECORDS + 1);
+    check_count(b"check count 360", RECORDS);
+    check_count(b"check count 361", RECORDS + 1);
+    check_count(b"check count 4294967295", 4294967295);
+    check_record(b"check garbage in the first unused room", 9, garbage(255));
+    check_record(
         b"check garbage in the last unused room",
-        plan::check(haul_with(MOST_RECORDS - 1, garbage(1))),
+        MOST_RECORDS - 1,
+        garbage(POINT),
     );
-    reply(
-        b"check garbage of unknown kind in use",
-        plan::check(haul_with(8, garbage(255))),
-    );
-    reply(
-        b"check garbage of a known kind in use",
-        plan::check(haul_with(4, garbage(LINK))),
-    );
-    reply(
-        b"check a link with a code",
-        plan::check(haul_with(4, link_record(1, 20, 50, 2, 1))),
-    );
-    reply(
-        b"check a link 20 to 20",
-        plan::check(haul_with(4, link_record(1, 20, 20, 2, 0))),
-    );
-    reply(
+    check_record(b"check garbage of unknown kind in use", 8, garbage(255));
+    check_record(b"check garbage of a known kind in use", 4, garbage(LINK));
+    check_record(b"check a link with a code", 4, link_record(1, 20, 50, 2, 1));
+    check_record(b"check a link 20 to 20", 4, link_record(1, 20, 20, 2, 0));
+    check_record(
         b"check a link 20 to 34 with the wait 35",
-        plan::check(haul_with(4, link_record(1, 20, 34, 2, 0))),
+        4,
+        link_record(1, 20, 34, 2, 0),
     );
 }
 
@@ -302,25 +296,34 @@ fn blank_from(p: Plan, from: usize) -> bool {
     true
 }
 
-// What is handed back where reading refuses, and in unused room.
+// What reading the file hands back: how many records, and whether its room is zero from place `from` on.
+fn room(name: &[u8], file: File, from: usize) {
+    let p = file.read().plan;
+    text(name);
+    text(b": ");
+    decimal(p.count);
+    whether(b" records, the rest zero", blank_from(p, from));
+}
+
+// The plan of a refused read, and unused room; the last line shows that the test of zeros can fail.
 pub fn rooms() {
-    let refused = haul().with(wait(3, 2, 51)).read();
-    pair(b"the haul with a wait 51", refused.number, refused.place);
-    let plan = refused.plan;
-    one(b"its records", plan.count);
-    whether(b"its room is zero", blank_from(plan, 0));
-    let short = points(1).of_length(RECORD_BYTES + 1).read().plan;
-    one(b"the records of 17 bytes", short.count);
-    whether(b"their room is zero", blank_from(short, 0));
-    let taken = haul().read().plan;
-    one(b"the records of the haul", taken.count);
-    whether(
-        b"its room is zero after them",
-        blank_from(taken, HAUL_RECORDS as usize),
+    room(b"handed back for no bytes", File::none(), 0);
+    room(
+        b"handed back for 17 bytes",
+        points(1).of_length(RECORD_BYTES + 1),
+        0,
     );
-    whether(
-        b"its room is zero from the last of them on",
-        blank_from(taken, HAUL_RECORDS as usize - 1),
+    room(b"handed back for 361 points", points(RECORDS + 1), 0);
+    room(
+        b"handed back for the haul with a wait 51",
+        haul().with(wait(3, 2, 51)),
+        0,
+    );
+    room(b"handed back for the haul", haul(), HAUL_RECORDS as usize);
+    room(
+        b"handed back for the haul, its last record with the rest",
+        haul(),
+        HAUL_RECORDS as usize - 1,
     );
 }
 
@@ -369,38 +372,39 @@ pub fn lookups() {
     finds(b"of two links, that to 4", two, 4);
 }
 
+fn points_in(name: &[u8], p: Plan) {
+    one(name, points_of(p));
+}
+
+// The link to point 2 in the haul with another count.
+fn finds_in(name: &[u8], count: u32) {
+    finds(name, haul_of(count), 2);
+}
+
+// The link to a point in the haul with another record at place i.
+fn finds_with(name: &[u8], i: usize, r: Record, c: u8) {
+    finds(name, haul_with(i, r), c);
+}
+
 // Lookups in plans that no file could hold.
 pub fn odd_lookups() {
-    one(b"points of no records", points_of(haul_of(0)));
-    one(b"points of 3 records", points_of(haul_of(3)));
-    one(
-        b"points of 4294967295 records",
-        points_of(haul_of(4294967295)),
-    );
-    one(
+    points_in(b"points of no records", haul_of(0));
+    points_in(b"points of 3 records", haul_of(3));
+    points_in(b"points of 4294967295 records", haul_of(4294967295));
+    points_in(
         b"points with garbage in unused room",
-        points_of(haul_with(HAUL_RECORDS as usize, garbage(POINT))),
+        haul_with(9, garbage(POINT)),
     );
-    one(
-        b"points with garbage in use",
-        points_of(haul_with(8, garbage(POINT))),
-    );
-    finds(b"the link to 2 in 4 records", haul_of(4), 2);
-    finds(b"the link to 2 in 5 records", haul_of(5), 2);
-    finds(
-        b"the link to 2 in 4294967295 records",
-        haul_of(4294967295),
-        2,
-    );
-    finds(
+    points_in(b"points with garbage in use", haul_with(8, garbage(POINT)));
+    finds_in(b"the link to 2 in 4 records", 4);
+    finds_in(b"the link to 2 in 5 records", 5);
+    finds_in(b"the link to 2 in 4294967295 records", 4294967295);
+    finds_with(
         b"of two links to 2, the first",
-        haul_with(8, link_record(3, 20, 50, 2, 0)),
+        8,
+        link_record(3, 20, 50, 2, 0),
         2,
     );
-    finds(b"a link to 255 in use", haul_with(8, garbage(LINK)), 255);
-    finds(
-        b"a link to 255 in unused room",
-        haul_with(9, garbage(LINK)),
-        255,
-    );
+    finds_with(b"a link to 255 in use", 8, garbage(LINK), 255);
+    finds_with(b"a link to 255 in unused room", 9, garbage(LINK), 255);
 }

@@ -1,0 +1,6 @@
+-- What a reader has to believe of boards, in the order of document 01. No proofs are here.
+pub mod Boards
+pub mod Windows
+pub mod Replies
+pub mod Events
+pub mod Verdicts

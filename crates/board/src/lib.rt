@@ -1,6 +1,8 @@
 // The board: windows, replies, events and the verdict. Document 01, "Board, windows, replies", "Events" and "Verdict and
 // plan test"; specs/ states them in that order. Every open function takes any plan, any board and any bytes and answers.
 
+mod links;
+
 // The clock, the set of done points, and a minute for each point. Points that are not done hold 0.
 pub struct Board {
     pub clock: u32,

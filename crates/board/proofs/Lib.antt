@@ -2,3 +2,4 @@
 mod Cases
 pub mod Records
 mod Linking
+mod Walks

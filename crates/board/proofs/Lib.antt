@@ -1,3 +1,6 @@
 -- The modules of proofs that belong to no one function. Other crates cite the ones that are `pub`.
 mod Cases
 pub mod Theorems
+pub mod Records
+mod Linking
+mod Walks

@@ -4,3 +4,4 @@ pub mod Windows
 pub mod Replies
 pub mod Events
 pub mod Verdicts
+pub mod Inside

@@ -1,6 +1,9 @@
 // The board: windows, replies, events and the verdict. Document 01, "Board, windows, replies", "Events" and "Verdict and
 // plan test"; specs/ states them in that order. Every open function takes any plan, any board and any bytes and answers.
 
+mod links;
+mod sound;
+
 // The clock, the set of done points, and a minute for each point. Points that are not done hold 0.
 pub struct Board {
     pub clock: u32,
@@ -9,7 +12,10 @@ pub struct Board {
 }
 
 // A place for each point.
-pub const ROOM: usize = 32;
+pub const ROOM: usize = plan::MOST_POINTS as usize;
+
+// No duration and no bound is further from 0 than this, and an offer reaches no further past the clock.
+const FARTHEST: u32 = plan::FARTHEST as u32;
 
 // What is said of one point in an offer.
 pub enum State {

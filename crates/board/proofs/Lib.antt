@@ -4,3 +4,6 @@ pub mod Theorems
 pub mod Records
 mod Linking
 mod Walks
+mod Minus
+mod Windowing
+mod Opening

@@ -3,7 +3,7 @@
 
 mod links;
 mod sound;
-
+mod windows;
 // The clock, the set of done points, and a minute for each point. Points that are not done hold 0.
 pub struct Board {
     pub clock: u32,

@@ -3,3 +3,4 @@ mod Cases
 pub mod Records
 mod Linking
 mod Walks
+pub mod Theorems

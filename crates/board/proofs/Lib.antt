@@ -3,4 +3,5 @@ mod Cases
 pub mod Records
 mod Linking
 mod Walks
+mod Broken
 pub mod Theorems

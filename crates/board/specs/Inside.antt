@@ -3,15 +3,17 @@
 use mathlib.Core.Path.{_≡_}
 use mathlib.Core.Bool.{Bool, true, false, not, _&&_}
 use mathlib.Core.List.{List}
-use Prim.Native.Nat.{ℕ, _<_, _^_}
-use lib.Dec.{ltb}
+use Prim.Native.Nat.{ℕ, _+_, _-_, _<_, _^_, min}
+use lib.Dec.{ltb, leb}
 use lib.ListN.{length, getD}
 use Rattle.points.specs.Sets.{member, withOf}
 use Rattle.plan.specs.Choice.{if_then_else_}
 use Rattle.plan.specs.Limits.{mostPoints}
-use Rattle.plan.specs.APlan.{link, is, watched, linkTo}
+use Rattle.plan.specs.APlan.{link, ordinary, wait, is, watched, linkTo, gapOf}
 use Rattle.plan.specs.declared.Record.{Record}
-use Rattle.board.specs.Boards.{shortest, longest}
+use Rattle.board.specs.Boards.{minute, shortest, longest}
+use Rattle.board.specs.Verdicts.{ordinaryKept}
+use Rattle.board.specs.declared.Board.{Board}
 use Rattle.board.specs.declared.links.End.{End}
 use Rattle.board.specs.declared.links.Links.{Links}
 
@@ -40,3 +42,10 @@ pub record LinksOf (rs : List Record) (l : Links) : Type 0 where
   pub fits : l .watched < 2 ^ 32
   pub watches : (p : ℕ) → p < mostPoints → member (l .watched) p ≡ watched rs p
   pub ends : (p : ℕ) → p < mostPoints → getD (l .ends) p noEnd ≡ endOf rs p
+
+-- the record r is kept, where the link that ends at its second point starts at `from`
+abbrev pub keptFrom : Board → ℕ → Record → Bool
+keptFrom b from r =
+    if is ordinary r then ordinaryKept b r
+    else if is wait r then leb (minute b from + min (gapOf (r .first) .up) (minute b (r .b) - minute b from)) (minute b (r .a))
+    else true

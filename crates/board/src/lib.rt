@@ -1,9 +1,50 @@
 // The board: windows, replies, events and the verdict. Document 01, "Board, windows, replies", "Events" and "Verdict and
 // plan test"; specs/ states them in that order. Every open function takes any plan, any board and any bytes and answers.
 
+ghost use mathlib.Core.Path.{_≡_};
+ghost use Rattle.board.specs.Boards.{fresh};
+ghost use Rattle.board.specs.Verdicts.{verdictOf};
+
+mod judging;
 mod links;
+mod replies;
 mod sound;
 mod windows;
+
+use judging::first_broken;
+use links::links_of;
+use plan::ACCEPTED;
+use plan::Plan;
+use plan::check;
+pub use replies::reply_of;
+use sound::all_points;
+use sound::is_sound;
+
+// The reply numbers 20 to 31.
+pub const UNSOUND: u32 = 20;
+
+pub const ALL_DONE: u32 = 21;
+
+pub const IS_STUCK: u32 = 22;
+
+pub const NOT_FORMED: u32 = 23;
+
+pub const BEFORE_CLOCK: u32 = 24;
+
+pub const NOT_RUNNING: u32 = 25;
+
+pub const NOT_IN_TIME: u32 = 26;
+
+pub const RUN_OUT: u32 = 27;
+
+pub const NOT_OPEN: u32 = 28;
+
+pub const TOO_EARLY: u32 = 29;
+
+pub const TOO_LATE: u32 = 30;
+
+pub const NOT_ALL_DONE: u32 = 31;
+
 // The clock, the set of done points, and a minute for each point. Points that are not done hold 0.
 pub struct Board {
     pub clock: u32,
@@ -59,4 +100,33 @@ pub enum Verdict {
     Refused(u32, u32),
     Kept,
     Broken(u32),
+}
+
+// A board on which nothing is done.
+pub fn fresh() -> Board
+    ensures { λ b. ⌜ b ≡ fresh ⌝ }
+{
+    Board {
+        clock: 0,
+        done: 0,
+        minutes: [0u32; ROOM],
+    }
+}
+
+// The verdict on a finished board.
+pub fn verdict_of(plan: Plan, board: Board) -> Verdict
+    ensures { λ v. ⌜ v ≡ verdictOf plan board ⌝ }
+{
+    let found = check(plan);
+    if found.number != ACCEPTED {
+        return Verdict::Refused(found.number, found.place);
+    }
+    if !is_sound(plan, board) {
+        return Verdict::Refused(UNSOUND, 0);
+    }
+    if board.done != all_points(plan) {
+        return Verdict::Refused(NOT_ALL_DONE, 0);
+    }
+    let links = links_of(plan);
+    first_broken(plan, board, links)
 }

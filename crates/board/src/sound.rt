@@ -21,7 +21,8 @@ use points::has;
 use points::subset;
 use points::without;
 
-fn wide(x: u32) -> u64
+// A number of 32 bits, where sums are of 64.
+pub(crate) fn wide(x: u32) -> u64
     ensures { λ r. ⌜ r ≡ x ⌝ }
 {
     x as u64

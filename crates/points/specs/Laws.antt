@@ -1,102 +1,119 @@
--- What holds of sets of points, stated over `member`: what a set has after a point is put in or taken out, that it still fits 32 bits, how
--- many it has, and that a walk by `firstOf` and `withoutOf` meets each member once, in rising order. Assumes nothing.
+-- What holds of sets of points: which members a set has, that it stays one of 32 bits, how many it has, and that a walk by `firstOf` and
+-- `withoutOf` meets each member once, in rising order. Assumes nothing.
 use mathlib.Core.Path.{_≡_, refl, ap, sym, _∙_}
-use mathlib.Core.Bool.{Bool, true, false, not, cond, _&&_, _||_, true≢false}
+use mathlib.Core.Bool.{Bool, true, false, not, cond, _&&_, _||_, true≢false, and-false, and-eq-true-iff}
 use mathlib.Core.List.{List, [], _∷_}
-use Prim.Native.Nat.{ℕ, zero, suc, _+_, _*_, _-_, _/_, _%_, _^_, _<_, _≤_, min}
+use Prim.Native.Nat.{ℕ, zero, suc, _+_, _-_, _/_, _%_, _^_, _<_, _≤_, min}
+use native.Mathlib.Nat.{pow-suc, div-div-eq-div-mul, div-eq-of-lt, lt-of-lt-of-le, min-le-right, zero-add, zero-div}
 use native.Mathlib.Omega.{arith}
-use native.Mathlib.Nat.{pow-suc, div-div-eq-div-mul, mul-comm, div-eq-of-lt, lt-of-lt-of-le, zero-add, zero-div}
-use lib.Pow.{pow-mono}
-use borrow.Author.Tests.{eqb-true, eqb-false, eq-eqb, ne-eqb, ltb-true, ltb-false, lt-ltb, le-ltb}
-use lib.Count.{ones, ones-step, trailingZeros, under}
-use lib.Dec.{eqb, ltb, eqb·zero-suc, eqb·suc-zero, eqb·suc-suc}
+use borrow.Author.Tests.{eqb-true, eq-eqb, ltb-true, ltb-false, lt-ltb, le-ltb, not-true}
+use lib.Count.{ones, ones-le, ones-step, trailingZeros, under}
+use lib.Dec.{lit<, eqb, ltb}
 use lib.ListN.{length}
-use Rattle.points.specs.Sets.{member, withOf, withoutOf, countOf, points, passing, membersOf, firstOr, firstOf, every, subsetOf, belowOf}
+use lib.Pow.{pow-mono}
+use Rattle.points.specs.Sets.{member, withOf, withoutOf, countOf, belowOf, from, passing, membersOf, firstOr, firstOf, every, subsetOf}
+use Rattle.points.specs.Bits.{bit, twice, member-bit, bit-one, bit-zero, add-member, add-fits, add-ones, take-bit, same-bits, low-bits}
+use Rattle.points.specs.Lists.{NoneIn, Begins, none, lowest, begins, every-within, within-every}
 
--- ---- bits, lowest first
+-- ---- which members a set has
 
-twice : (p : ℕ) → 2 ^ suc p ≡ 2 * 2 ^ p
-twice p = pow-suc 2 p ∙ mul-comm (2 ^ p) 2
-
-abbrev bit : ℕ → ℕ → ℕ
-bit s zero = s % 2
-bit s (suc p) = bit (s / 2) p
-
-bit-shift : (s p : ℕ) → s / 2 ^ p % 2 ≡ bit s p
-bit-shift s zero = let e : s / 1 ≡ s = omega arith in rw e
-bit-shift s (suc p) = rw (twice p, ← div-div-eq-div-mul s 2 (2 ^ p)) (bit-shift (s / 2) p)
-
-member-bit : (s p : ℕ) → member s p ≡ eqb (bit s p) 1
+-- No point is in the empty set.
+pub member-empty : (p : ℕ) → member 0 p ≡ false
 unfolding member
-member-bit s p = rw (bit-shift s p)
+member-empty p = rw (zero-div (2 ^ p))
 
-bit-one : (s p : ℕ) → member s p ≡ true → bit s p ≡ 1
-bit-one s p h = eqb-true _ _ (sym (member-bit s p) ∙ h)
+-- No point past 31 is in a set.
+pub member-past : (s p : ℕ) → s < 2 ^ 32 → 32 ≤ p → member s p ≡ false
+unfolding member
+member-past s p f l = rw (div-eq-of-lt (lt-of-lt-of-le f (pow-mono l)))
 
-bit-zero : (s p : ℕ) → member s p ≡ false → bit s p ≡ 0
-bit-zero s p h =
-    let n : bit s p ≡ 1 → ⊥ = eqb-false _ _ (sym (member-bit s p) ∙ h) in
-    omega (arith, bit-shift s p)
+-- A point that is in a set is below 32.
+pub member-small : (s p : ℕ) → s < 2 ^ 32 → member s p ≡ true → p < 32
+member-small s p f h = go (ltb p 32) refl
+  where
+    go : (b : Bool) → ltb p 32 ≡ b → p < 32
+    go true l = ltb-true p 32 l
+    go false l = absurd (true≢false (sym h ∙ member-past s p f (ltb-false p 32 l)))
 
-half : (s p : ℕ) → (s + 2 ^ suc p) / 2 ≡ s / 2 + 2 ^ p
-half s p = rw (twice p) (omega arith)
+-- A set is at least the bit of each of its members.
+pub member-le : (s p : ℕ) → member s p ≡ true → 2 ^ p ≤ s
+member-le s p h = take-bit s p (bit-one s p h) .0
 
-odd : (s p : ℕ) → (s + 2 ^ suc p) % 2 ≡ s % 2
-odd s p = rw (twice p) (omega arith)
+-- Two sets with the same members are the same.
+pub same-members : (s t : ℕ) → s < 2 ^ 32 → t < 2 ^ 32 → ((p : ℕ) → p < 32 → member s p ≡ member t p) → s ≡ t
+same-members s t f g h = same-bits 32 s t f g (λ p l. go p (member s p) refl (h p l))
+  where
+    go : (p : ℕ) (b : Bool) → member s p ≡ b → member s p ≡ member t p → bit s p ≡ bit t p
+    go p true e k = bit-one s p e ∙ sym (bit-one t p (sym k ∙ e))
+    go p false e k = bit-zero s p e ∙ sym (bit-zero t p (sym k ∙ e))
 
--- ---- a point that s lacks is put in
+-- The members of `belowOf n` are the points below n.
+pub member-below : (n p : ℕ) → member (belowOf n) p ≡ ltb p (min n 32)
+unfolding belowOf
+member-below n p = member-bit (2 ^ min n 32 - 1) p ∙ low-bits (min n 32) p
 
-put-bit : (s p q : ℕ) → bit s p ≡ 0 → eqb (bit (s + 2 ^ p) q) 1 ≡ (eqb q p || eqb (bit s q) 1)
-put-bit s zero zero h = let e : (s + 1) % 2 ≡ 1 = omega arith in rw e
-put-bit s zero (suc q) h = let e : (s + 1) / 2 ≡ s / 2 = omega arith in rw (e, eqb·suc-zero q)
-put-bit s (suc p) zero h = rw (odd s p, eqb·zero-suc p)
-put-bit s (suc p) (suc q) h = rw (half s p, eqb·suc-suc q p) (put-bit (s / 2) p q h)
+-- `belowOf n` fits 32 bits.
+pub below-fits : (n : ℕ) → belowOf n < 2 ^ 32
+unfolding belowOf
+below-fits n = omega (arith, pow-mono (min-le-right n 32))
 
-put : (s p q : ℕ) → member s p ≡ false → member (s + 2 ^ p) q ≡ (eqb q p || member s q)
-put s p q h = rw (member-bit (s + 2 ^ p) q, member-bit s q) (put-bit s p q (bit-zero s p h))
+-- ---- a point is put in
 
-put-fits : (k s p : ℕ) → s < 2 ^ k → p < k → bit s p ≡ 0 → s + 2 ^ p < 2 ^ k
-put-fits zero s p b h z = absurd (omega arith)
-put-fits (suc k) s zero b h z = rw (twice k) (omega (arith, rw (twice k) at b))
-put-fits (suc k) s (suc p) b h z =
-    let b' : s < 2 * 2 ^ k = rw (twice k) at b in
-    let r : s / 2 + 2 ^ p < 2 ^ k = put-fits k (s / 2) p (omega arith) (omega arith) z in
-    rw (twice k, twice p) (omega arith)
-
-put-ones : (s p : ℕ) → bit s p ≡ 0 → ones (s + 2 ^ p) ≡ ones s + 1
-put-ones s zero h =
-    let e : (s + 1) / 2 ≡ s / 2 = omega arith in
-    let a = rw e at (ones-step (s + 1)) in
-    omega (arith, ones-step s, a)
-put-ones s (suc p) h =
-    let a = rw (half s p, odd s p) at (ones-step (s + 2 ^ suc p)) in
-    omega (arith, a, ones-step s, put-ones (s / 2) p h)
-
--- ---- a point that s has is taken out: what is left lacks it
-
-left : (s p : ℕ) → bit s p ≡ 1 → (2 ^ p ≤ s) × (bit (s - 2 ^ p) p ≡ 0)
-left s zero h = (omega arith, omega arith)
-left s (suc p) h =
-    let r = left (s / 2) p h in
-    let e : (s - 2 * 2 ^ p) / 2 ≡ s / 2 - 2 ^ p = omega (arith, r .0) in
-    rw (twice p) (omega (arith, r .0), rw e (r .1))
-
--- ---- the laws
-
--- A set has what it had and the point that was put in.
-pub member-with : (s p q : ℕ) → p < 32 → member (withOf s p) q ≡ (eqb q p || member s q)
+-- A point that s lacks adds its bit.
+pub with-new : (s p : ℕ) → p < 32 → member s p ≡ false → withOf s p ≡ s + 2 ^ p
 unfolding withOf
-member-with s p q l = rw (lt-ltb p 32 l) (go (member s p) refl)
+with-new s p l h = rw (lt-ltb p 32 l, h)
+
+-- A point that s has changes nothing.
+pub with-old : (s p : ℕ) → member s p ≡ true → withOf s p ≡ s
+unfolding withOf
+with-old s p h = rw (h, and-false (ltb p 32))
+
+-- A point past 31 changes nothing.
+pub with-past : (s p : ℕ) → 32 ≤ p → withOf s p ≡ s
+unfolding withOf
+with-past s p l = rw (le-ltb p 32 l)
+
+-- With a point a set has that point and what it had.
+pub member-with : (s p q : ℕ) → p < 32 → member (withOf s p) q ≡ (eqb q p || member s q)
+member-with s p q l = go (member s p) refl
   where
     had : member s p ≡ true → (b : Bool) → eqb q p ≡ b → member s q ≡ (b || member s q)
     had h true e = rw (eqb-true q p e) h
     had h false e = refl
 
-    go : (b : Bool) → member s p ≡ b → member (cond (not b) (s + 2 ^ p) s) q ≡ (eqb q p || member s q)
-    go true h = had h (eqb q p) refl
-    go false h = put s p q h
+    go : (b : Bool) → member s p ≡ b → member (withOf s p) q ≡ (eqb q p || member s q)
+    go true h = rw (with-old s p h) (had h (eqb q p) refl)
+    go false h = rw (with-new s p l h) (add-member s p q h)
 
--- A set has what it had, but for the point that was taken out.
+-- With a point a set still fits 32 bits.
+pub with-fits : (s p : ℕ) → s < 2 ^ 32 → withOf s p < 2 ^ 32
+unfolding withOf
+with-fits s p f = go (ltb p 32 && not (member s p)) refl
+  where
+    go : (b : Bool) → (ltb p 32 && not (member s p)) ≡ b → cond b (s + 2 ^ p) s < 2 ^ 32
+    go true e =
+        let r = and-eq-true-iff (ltb p 32) (not (member s p)) .0 e in
+        add-fits 32 s p f (ltb-true p 32 (r .0)) (bit-zero s p (not-true (member s p) (r .1)))
+    go false e = f
+
+-- A point that s lacks makes one more.
+pub with-count : (s p : ℕ) → p < 32 → member s p ≡ false → countOf (withOf s p) ≡ countOf s + 1
+with-count s p l h = rw (with-new s p l h) (add-ones s p (bit-zero s p h))
+
+-- ---- a point is taken out
+
+-- A point that s has takes its bit away.
+pub without-old : (s p : ℕ) → member s p ≡ true → withoutOf s p + 2 ^ p ≡ s
+unfolding withoutOf
+without-old s p h = rw h (omega (arith, member-le s p h))
+
+-- A point that s lacks changes nothing.
+pub without-new : (s p : ℕ) → member s p ≡ false → withoutOf s p ≡ s
+unfolding withoutOf
+without-new s p h = rw h
+
+-- Without a point a set has what it had but that point.
 pub member-without : (s p q : ℕ) → member (withoutOf s p) q ≡ (not (eqb q p) && member s q)
 unfolding withoutOf
 member-without s p q = go (member s p) refl
@@ -105,31 +122,20 @@ member-without s p q = go (member s p) refl
     lacks t h true e = rw (eqb-true q p e) h
     lacks t h false e = refl
 
-    past : (b m : Bool) → (not b && (b || m)) ≡ (not b && m)
-    past true m = refl
-    past false m = refl
+    but : (b m : Bool) → (not b && (b || m)) ≡ (not b && m)
+    but true m = refl
+    but false m = refl
 
     go : (b : Bool) → member s p ≡ b → member (cond b (s - 2 ^ p) s) q ≡ (not (eqb q p) && member s q)
     go true h =
-        let r = left s p (bit-one s p h) in
-        let z : member (s - 2 ^ p) p ≡ false = rw (member-bit (s - 2 ^ p) p, r .1) in
-        let e : s - 2 ^ p + 2 ^ p ≡ s = omega (arith, r .0) in
-        let m : member s q ≡ (eqb q p || member (s - 2 ^ p) q) = rw e at (put (s - 2 ^ p) p q z) in
-        rw (m, past (eqb q p) (member (s - 2 ^ p) q)) (lacks (s - 2 ^ p) z (eqb q p) refl)
+        let t = s - 2 ^ p in
+        let r = take-bit s p (bit-one s p h) in
+        let z : member t p ≡ false = rw (member-bit t p, r .1) in
+        let e : t + 2 ^ p ≡ s = omega (arith, r .0) in
+        rw (rw e at (add-member t p q z), but (eqb q p) (member t q)) (lacks t z (eqb q p) refl)
     go false h = lacks s h (eqb q p) refl
 
--- A set of 32 bits with a point more is one of 32 bits.
-pub with-fits : (s p : ℕ) → s < 2 ^ 32 → withOf s p < 2 ^ 32
-unfolding withOf
-with-fits s p f = go (ltb p 32) (member s p) refl refl
-  where
-    go : (a b : Bool) → ltb p 32 ≡ a → member s p ≡ b → cond (a && not b) (s + 2 ^ p) s < 2 ^ 32
-    go true true l h = f
-    go true false l h = put-fits 32 s p f (ltb-true p 32 l) (bit-zero s p h)
-    go false true l h = f
-    go false false l h = f
-
--- A set of 32 bits but a point is one of 32 bits.
+-- Without a point a set still fits 32 bits.
 pub without-fits : (s p : ℕ) → s < 2 ^ 32 → withoutOf s p < 2 ^ 32
 unfolding withoutOf
 without-fits s p f = go (member s p)
@@ -138,64 +144,131 @@ without-fits s p f = go (member s p)
     go true = omega arith
     go false = f
 
--- No point past 31 is in a set of 32 bits.
-pub member-past : (s p : ℕ) → s < 2 ^ 32 → 32 ≤ p → member s p ≡ false
-unfolding member
-member-past s p f l = rw (div-eq-of-lt (lt-of-lt-of-le f (pow-mono l)))
-
--- No point is in the empty set.
-pub member-empty : (p : ℕ) → member 0 p ≡ false
-unfolding member
-member-empty p = rw (zero-div (2 ^ p))
-
--- A member of a set of 32 bits is below 32.
-pub member-small : (s p : ℕ) → s < 2 ^ 32 → member s p ≡ true → p < 32
-member-small s p f h = go (ltb p 32) refl
-  where
-    go : (b : Bool) → ltb p 32 ≡ b → p < 32
-    go true l = ltb-true p 32 l
-    go false l = absurd (true≢false (sym h ∙ member-past s p f (ltb-false p 32 l)))
-
--- A set is at least the bit of each member.
-pub member-le : (s p : ℕ) → member s p ≡ true → 2 ^ p ≤ s
-member-le s p h = left s p (bit-one s p h) .0
-
--- A point that s lacks adds its bit.
-pub with-new : (s p : ℕ) → p < 32 → member s p ≡ false → withOf s p ≡ s + 2 ^ p
-unfolding withOf
-with-new s p l h = rw (lt-ltb p 32 l, h)
-
--- A point that s has leaves with its bit.
-pub without-old : (s p : ℕ) → member s p ≡ true → withoutOf s p + 2 ^ p ≡ s
-unfolding withoutOf
-without-old s p h = rw h (omega (arith, member-le s p h))
+-- A point that s has makes one fewer.
+pub without-count : (s p : ℕ) → member s p ≡ true → countOf s ≡ countOf (withoutOf s p) + 1
+without-count s p h =
+    let t = withoutOf s p in
+    let z : member t p ≡ false = rw (member-without s p p, eq-eqb p p refl) in
+    rw (without-old s p h) at (add-ones t p (bit-zero t p z))
 
 -- ---- the members in rising order
 
--- the bits from p + 1 on
+-- the bits past p
 next : (s p : ℕ) → s / 2 ^ suc p ≡ s / 2 ^ p / 2
 next s p = rw (pow-suc 2 p, div-div-eq-div-mul)
 
-trailing-from : (s n p : ℕ) → p + trailingZeros n (s / 2 ^ p) ≡ firstOr (p + n) (passing (member s) (points p n))
-unfolding trailingZeros firstOr passing points member
+trailing-from : (s n p : ℕ) → p + trailingZeros n (s / 2 ^ p) ≡ firstOr (p + n) (passing (member s) (from p n))
+unfolding trailingZeros firstOr passing from member
 trailing-from s zero p = refl
 trailing-from s (suc n) p = go (s / 2 ^ p % 2) refl (rw (next s p) at (trailing-from s n (suc p)))
   where
     rest : List ℕ
-    rest = passing (member s) (points (suc p) n)
+    rest = passing (member s) (from (suc p) n)
 
     go : (d : ℕ) → s / 2 ^ p % 2 ≡ d → suc p + trailingZeros n (s / 2 ^ p / 2) ≡ firstOr (suc p + n) rest
         → p + under d (trailingZeros n (s / 2 ^ p / 2)) ≡ firstOr (p + suc n) (cond (eqb d 1) (p ∷ rest) rest)
-    go zero e ih =
-        let t : p + suc (trailingZeros n (s / 2 ^ p / 2)) ≡ suc p + trailingZeros n (s / 2 ^ p / 2) = omega arith in
-        let m : p + suc n ≡ suc p + n = omega arith in
-        rw (t, m) ih
-    go (suc zero) e ih = omega arith
-    go (suc (suc d)) e ih = absurd (omega arith)
+    go zero e r = let m : p + suc n ≡ suc p + n = omega arith in rw m (omega arith)
+    go (suc zero) e r = omega arith
+    go (suc (suc d)) e r = absurd (omega arith)
 
--- What the code's `trailing_zeros` counts is the lowest member.
+-- The lowest member is what `trailing_zeros` counts.
 pub trailing-first : (s : ℕ) → trailingZeros 32 s ≡ firstOf s
 unfolding firstOf membersOf
-trailing-first s =
-    let z : s / 1 ≡ s = omega arith in
-    rw (z, zero-add) at (trailing-from s 32 0)
+trailing-first s = let e : s / 1 ≡ s = omega arith in rw (e, zero-add (trailingZeros 32 s)) at (trailing-from s 32 0)
+
+ones-from : (s n p : ℕ) → s / 2 ^ p < 2 ^ n → ones (s / 2 ^ p) ≡ length (passing (member s) (from p n))
+unfolding passing from member
+ones-from s zero p f = omega (arith, ones-le 0 (s / 2 ^ p) f)
+ones-from s (suc n) p f =
+    let f' : s / 2 ^ suc p < 2 ^ n = rw (next s p) (omega (arith, rw (twice n) at f)) in
+    go (s / 2 ^ p % 2) refl (rw (next s p) at (ones-from s n (suc p) f'))
+  where
+    rest : List ℕ
+    rest = passing (member s) (from (suc p) n)
+
+    go : (d : ℕ) → s / 2 ^ p % 2 ≡ d → ones (s / 2 ^ p / 2) ≡ length rest → ones (s / 2 ^ p) ≡ length (cond (eqb d 1) (p ∷ rest) rest)
+    go zero e r = omega (arith, ones-step (s / 2 ^ p))
+    go (suc zero) e r = omega (arith, ones-step (s / 2 ^ p))
+    go (suc (suc d)) e r = absurd (omega arith)
+
+-- A set has at most 32 points.
+pub count-le : (s : ℕ) → s < 2 ^ 32 → countOf s ≤ 32
+count-le s f = ones-le 32 s f
+
+-- The count of a set is how many members it has.
+pub count-members : (s : ℕ) → s < 2 ^ 32 → countOf s ≡ length (membersOf s)
+unfolding membersOf
+count-members s f = let e : s / 1 ≡ s = omega arith in rw e at (ones-from s 32 0 (rw e f))
+
+empty : (s : ℕ) → s < 2 ^ 32 → NoneIn (member s) 0 32 → s ≡ 0
+empty s f h = same-members s 0 f (lit< tt) (λ p l. h p (omega arith) l ∙ sym (member-empty p))
+
+-- The point p is the lowest of s.
+pub record First (s p : ℕ) : Type 0 where
+  pub small : p < 32
+  pub there : member s p ≡ true
+  pub lower : (q : ℕ) → q < p → member s q ≡ false
+
+-- The first of a set that is not empty is its lowest member.
+pub first-member : (s : ℕ) → 0 < s → s < 2 ^ 32 → First s (firstOf s)
+unfolding firstOf membersOf firstOr
+first-member s o f = go (begins (member s) 32 0)
+  where
+    go : {l : List ℕ} → Begins (member s) 0 32 l → First s (firstOr 32 l)
+    go (none h) = absurd (omega (arith, empty s f h))
+    go (lowest t a b h r) = record { small = omega arith; there = t; lower = λ q l. h q (omega arith) l }
+
+-- The empty set has no members.
+pub members-empty : membersOf 0 ≡ []
+unfolding membersOf passing from member
+members-empty = refl
+
+-- The members of a set that is not empty are its first and then the members without that one, so a walk that takes the first out until
+-- the set is empty meets each member once, in rising order.
+pub members-step : (s : ℕ) → 0 < s → s < 2 ^ 32 → membersOf s ≡ firstOf s ∷ membersOf (withoutOf s (firstOf s))
+unfolding firstOf membersOf firstOr
+members-step s o f = go (begins (member s) 32 0)
+  where
+    go : {l : List ℕ} → Begins (member s) 0 32 l → l ≡ firstOr 32 l ∷ membersOf (withoutOf s (firstOr 32 l))
+    go (none h) = absurd (omega (arith, empty s f h))
+    go (lowest {x = x} t a b h r) = ap (λ l. x ∷ l) (sym (r (member (withoutOf s x)) (member-without s x)))
+
+-- One turn of a walk: p is the lowest of s, and `rest` is s without it.
+pub record Turn (s p rest : ℕ) : Type 0 where
+  pub first : First s p
+  pub members : membersOf s ≡ p ∷ membersOf rest
+  pub fits : rest < 2 ^ 32
+  pub fewer : countOf s ≡ countOf rest + 1
+
+-- What a loop that walks over a set knows at each turn, from the replies of `first` and `without`.
+pub turn : (s p rest : ℕ) → 0 < s → s < 2 ^ 32 → p ≡ firstOf s → rest ≡ withoutOf s p → Turn s p rest
+turn s p rest o f e r =
+    let h : First s p = rw e (first-member s o f) in
+    rw r (record { first = h; members = rw e (members-step s o f); fits = without-fits s p f; fewer = without-count s p (h .there) })
+
+-- ---- subsets
+
+-- The empty set is a subset of any.
+pub subset-empty : (b : ℕ) → subsetOf 0 b ≡ true
+unfolding subsetOf every
+subset-empty b = rw members-empty
+
+-- Where its first is in b, a set is a subset of b just where the rest of it is.
+pub subset-found : (a b p rest : ℕ) → Turn a p rest → member b p ≡ true → subsetOf a b ≡ subsetOf rest b
+unfolding subsetOf every
+subset-found a b p rest t h = rw (t .members, h)
+
+-- Where its first is not in b, a set is no subset of b.
+pub subset-missing : (a b p rest : ℕ) → Turn a p rest → member b p ≡ false → subsetOf a b ≡ false
+unfolding subsetOf every
+subset-missing a b p rest t h = rw (t .members, h)
+
+-- Each member of a subset of b is in b.
+pub subset-member : (a b : ℕ) → subsetOf a b ≡ true → (p : ℕ) → p < 32 → member a p ≡ true → member b p ≡ true
+unfolding subsetOf membersOf
+subset-member a b h p l m = every-within (member a) (member b) 32 0 h p (omega arith) (omega arith) m
+
+-- A set each of whose members is in b is a subset of b.
+pub member-subset : (a b : ℕ) → ((p : ℕ) → p < 32 → member a p ≡ true → member b p ≡ true) → subsetOf a b ≡ true
+unfolding subsetOf membersOf
+member-subset a b h = within-every (member a) (member b) 32 0 (λ p o l m. h p (omega arith) m)

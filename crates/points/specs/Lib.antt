@@ -1,2 +1,4 @@
 pub mod Sets
+mod Bits
+mod Lists
 pub mod Laws

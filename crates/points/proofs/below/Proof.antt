@@ -1,7 +1,7 @@
 -- `points::below` meets its contract. Assumes nothing.
 use borrow.Author.Needs.{needs}
-use native.Mathlib.Omega.{arith}
 use native.Mathlib.Nat.{min-eq-left, min-eq-right, le-of-lt}
+use native.Mathlib.Omega.{arith}
 use lib.Pow.{pow-pos}
 use Rattle.points.specs.Sets.{belowOf}
 use Rattle.points.proofs.Shift.{one-shl}
@@ -12,13 +12,11 @@ shl-result : tie.Need-shl-result
 shl-result c = search needs
 
 sub-result : tie.Need-sub-result
-sub-result c = rw (one-shl _ (c .if1 .taken)) (pow-pos _)
+sub-result c = omega (arith, one-shl _ (c .if1 .taken), pow-pos (c .before .args .n))
 
 returns : tie.Need-returns
 unfolding belowOf
-returns c =
-    let l = c .if1 .taken in
-    rw (one-shl _ l, min-eq-left (le-of-lt l))
+returns c = rw (min-eq-left (le-of-lt (c .if1 .taken))) (omega (arith, one-shl _ (c .if1 .taken)))
 
 returns-2 : tie.Need-returns-2
 unfolding belowOf

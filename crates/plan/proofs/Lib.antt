@@ -1,0 +1,14 @@
+-- The modules of proofs that belong to no one function. Other crates cite the ones that are `pub`.
+mod Signed
+mod ByKind
+pub mod Passed
+mod Shows
+mod Sofar
+pub mod Words
+pub mod Entries
+pub mod RoundTrip
+mod Pairing
+mod Decoding
+mod Putting
+mod Lookup
+mod Writing

@@ -1,0 +1,85 @@
+-- `plan::read` meets its contract. Assumes nothing.
+use borrow.Author.Needs.{needs}
+use borrow.Author.Tests.{eq-eqb, ne-eqb, lt-ltb, le-ltb}
+use mathlib.Core.Path.{_≡_, refl, sym, ap, _∙_}
+use Rattle.plan.specs.ReplyNumbers.{firstBad, readOf}
+use Rattle.plan.specs.PlanFile.{Entry, entriesIn}
+use native.Mathlib.Omega.{arith}
+use Prim.Native.Nat.{_/_}
+use mathlib.Core.List.{[]}
+use lib.ListN.{length, length-map}
+use Rattle.plan.specs.Limits.{recordBytes}
+use Rattle.plan.specs.Inside.{entriesOf}
+use Rattle.plan.specs.declared.Decoded.{Decoded}
+use Rattle.plan.proofs.Entries.{length-entries}
+use Rattle.plan.proofs.Pairing.{decoded-back}
+use Rattle.plan.proofs.read.Statement.{statement}
+use Rattle.plan.proofs.read.Tie as tie
+
+refuse-requires : tie.Need-refuse-requires
+refuse-requires c κs = search needs
+
+returns : tie.Need-returns
+unfolding readOf
+returns c = rw (eq-eqb _ _ (c .before .if1 .taken)) (c .refuse .ensures)
+
+refuse-requires-2 : tie.Need-refuse-requires-2
+refuse-requires-2 c κs = search needs
+
+returns-2 : tie.Need-returns-2
+unfolding readOf
+returns-2 c = rw (ne-eqb _ _ (c .before .before .if1 .left), ne-eqb _ _ (c .before .if2 .taken)) (c .refuse2 .ensures)
+
+refuse-requires-3 : tie.Need-refuse-requires-3
+refuse-requires-3 c κs = search needs
+
+returns-3 : tie.Need-returns-3
+unfolding readOf
+returns-3 c = rw (ne-eqb _ _ (c .before .before .before .if1 .left), eq-eqb _ _ (c .before .before .if2 .left), lt-ltb _ _ (c .before .if3 .taken)) (c .refuse3 .ensures)
+
+decode-requires : tie.Need-decode-requires
+decode-requires c κs = search needs
+
+test-records-requires : tie.Need-test-records-requires
+test-records-requires c κs =
+    let s = c .before .before .before .before .before .before .before .args .bytes .now in
+    let es = entriesIn (length s / recordBytes) s in
+    rw (c .before .before .decode .ensures, length-map es (λ (e : Entry). e .what), length-entries (length s / recordBytes) s) (omega arith)
+
+refuse-requires-4 : tie.Need-refuse-requires-4
+refuse-requires-4 c κs = search needs
+
+returns-4 : tie.Need-returns-4
+unfolding readOf
+returns-4 c =
+    let s = c .before .before .before .before .before .before .before .before .before .before .before .args .bytes .now in
+    let es = entriesIn (length s / recordBytes) s in
+    let d = c .before .before .before .before .before .before .decode .ensures in
+    let f : c .before .before .before .test-records .result ≡ firstBad [] es = c .before .before .before .test-records .ensures ∙ ap (λ (d : Decoded). firstBad [] (entriesOf (d .plan) (d .reserved))) d ∙ ap (firstBad []) (decoded-back es) in
+    rw (ne-eqb _ _ (c .before .before .before .before .before .before .before .before .before .if1 .left), eq-eqb _ _ (c .before .before .before .before .before .before .before .before .if2 .left), le-ltb _ _ (c .before .before .before .before .before .before .before .if3 .left), ← f, ne-eqb _ _ (c .before .if4 .taken)) (c .refuse4 .ensures)
+
+returns-5 : tie.Need-returns-5
+unfolding readOf
+returns-5 c =
+    let s = c .before .before .before .before .before .before .before .before .before .before .args .bytes .now in
+    let es = entriesIn (length s / recordBytes) s in
+    let d = c .before .before .before .before .before .decode .ensures in
+    let f : c .before .before .test-records .result ≡ firstBad [] es = c .before .before .test-records .ensures ∙ ap (λ (d : Decoded). firstBad [] (entriesOf (d .plan) (d .reserved))) d ∙ ap (firstBad []) (decoded-back es) in
+    rw (ne-eqb _ _ (c .before .before .before .before .before .before .before .before .if1 .left), eq-eqb _ _ (c .before .before .before .before .before .before .before .if2 .left), le-ltb _ _ (c .before .before .before .before .before .before .if3 .left), ← f, eq-eqb _ _ (c .if4 .left))
+    (ap (λ (d : Decoded). record { number = 0; place = 0; plan = d .plan }) d)
+
+pub read-spec : {M : Type 1} → statement M
+read-spec =
+    tie.close
+    (tie.spec
+    refuse-requires
+    returns
+    refuse-requires-2
+    returns-2
+    refuse-requires-3
+    returns-3
+    decode-requires
+    test-records-requires
+    refuse-requires-4
+    returns-4
+    returns-5)

@@ -8,7 +8,7 @@ use lib.ListN.{length}
 use Rattle.vee.specs.Tables.{bias, side, room, at, Closing, Within}
 use Rattle.vee.specs.Tables.Closing.{first, next}
 use Rattle.vee.specs.Tables.Closed.{calm, below}
-use Rattle.vee.specs.Distances.{farthest}
+use Rattle.plan.specs.Limits.{farthest}
 use Rattle.vee.specs.Steps.{PassReady, PassDone, CloseReady, CloseDone}
 use Rattle.vee.specs.Closing.{within, near}
 

@@ -1,2 +1,6 @@
 pub mod Rows
 pub mod Closings
+pub mod Begins
+pub mod Offers
+pub mod Lays
+pub mod Searches

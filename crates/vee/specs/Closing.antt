@@ -9,12 +9,13 @@ use native.Mathlib.Nat.{pow-suc}
 use native.Mathlib.Numerals.{add-one}
 use lib.Pow.{pow-mono}
 use Rattle.network.specs.Walks.{Walk, nil, step}
+use Rattle.plan.specs.Limits.{farthest}
 use Rattle.network.specs.Passing.{Cycle, Consistent}
 use Rattle.network.specs.Laws.{append}
 use Rattle.vee.specs.Tables.{Table, bias, none, half, side, Best, Passed, Closing, Closed, Within, Near}
 use Rattle.vee.specs.Tables.Closing.{first, next}
 use Rattle.vee.specs.Tables.Closed.{calm, below}
-use Rattle.vee.specs.Distances.{farthest, Attained, Inside, Drawn, Distances}
+use Rattle.vee.specs.Distances.{Attained, Inside, Drawn, Distances}
 
 -- magnitudes at most double at each pass
 two : (k : ℕ) → 2 ^ (k + 1) ≡ 2 ^ k + 2 ^ k

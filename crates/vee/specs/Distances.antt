@@ -2,11 +2,8 @@
 use mathlib.Core.Path.{_≡_}
 use Prim.Native.Nat.{ℕ, _+_, _<_, _≤_}
 use Rattle.network.specs.Walks.{Walk}
+use Rattle.plan.specs.Limits.{farthest}
 use Rattle.vee.specs.Tables.{Table, bias, none, Within}
-
--- no weight of an edge is further from 0 than this
-abbrev pub farthest : ℕ
-farthest = 100_000
 
 -- the entry v is the weight of a walk from X to Y
 pub record Attained (E : ℕ → ℕ → ℕ → ℕ → Type 0) (X Y v : ℕ) : Type 0 where

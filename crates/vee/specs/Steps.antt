@@ -5,9 +5,12 @@ use mathlib.Core.Logic.{_⊎_, _≢_}
 use mathlib.Core.Bool.{Bool, true, false}
 use mathlib.Core.List.{List}
 use Prim.Native.Nat.{ℕ, _+_, _*_, _<_, _≤_}
+use lib.Dec.{ltb, leb}
 use lib.ListN.{length, getD}
+use Rattle.vee.specs.declared.table.Part.{Part}
+use Rattle.vee.specs.declared.table.Part.the-variants.{All, Falling, Rising}
 use Rattle.vee.specs.Tables.{Table, bias, none, half, side, room, at, Best, Passed, Closed, Within, Near}
-use Rattle.vee.specs.Distances.{farthest}
+use Rattle.plan.specs.Limits.{farthest}
 
 -- the two entries of a way by a point can be added
 abbrev pub Adds : ℕ → ℕ → Type 0
@@ -63,3 +66,24 @@ pub record Offered (i j u d : ℕ) (t t′ : List ℕ) : Type 0 where
   pub via : at t′ i j + d ≤ bias + u
   pub from : (at t′ i j ≡ at t i j) ⊎ (at t′ i j + d ≡ bias + u)
   pub rest : (q : ℕ) → q ≢ i * side + j → getD t′ q 0 ≡ getD t q 0
+
+-- the edges that a table is of, by their weight
+abbrev pub takesOf : Part → ℕ → ℕ → Bool
+takesOf All u d = true
+takesOf Falling u d = ltb u d
+takesOf Rising u d = leb d u
+
+-- an offer that is made, or not
+abbrev pub Offers : Bool → ℕ → ℕ → ℕ → ℕ → List ℕ → List ℕ → Type 0
+Offers true i j u d t t′ = Offered i j u d t t′
+Offers false i j u d t t′ = t′ ≡ t
+
+pub record OfferedOf (b : Bool) (i j u d : ℕ) (t t′ : List ℕ) : Type 0 where
+  pub long : length t′ ≡ room
+  pub does : Offers b i j u d t t′
+
+-- a table without edges
+pub record Begun (t : List ℕ) : Type 0 where
+  pub long : length t ≡ room
+  pub self : (x : ℕ) → x < side → at t x x ≡ bias
+  pub other : (x y : ℕ) → x < side → y < side → x ≢ y → at t x y ≡ none

@@ -7,6 +7,7 @@ use mathlib.Core.Bool.{Bool, true, false}
 use mathlib.Core.List.{List}
 use Prim.Native.Nat.{ℕ, _+_, _*_, _<_, _≤_}
 use lib.ListN.{length, getD}
+use Rattle.plan.specs.Limits.{mostPoints}
 
 -- a table has a number for each two points
 abbrev pub Table : Type 0
@@ -23,9 +24,9 @@ none = 4611686018427387904
 abbrev pub half : ℕ
 half = 562949953421312
 
--- a list of numbers as a table of 32 by 32
+-- a list of numbers as a table with a row for each point that a plan can have
 abbrev pub side : ℕ
-side = 32
+side = mostPoints
 
 abbrev pub room : ℕ
 room = side * side

@@ -1,2 +1,4 @@
 // The plan test.
+mod pairs;
+mod sheet;
 mod table;

@@ -2,12 +2,13 @@
 // A table is lent by the test, which keeps three.
 ghost use mathlib.Core.Path.{_≡_};
 ghost use Prim.Native.Nat.{_≤_, _<_};
-ghost use lib.ListN.{length};
-ghost use Rattle.vee.specs.Tables.{Best, room};
-ghost use Rattle.vee.specs.Steps.{Adds, RowReady, RowDone, PassReady, PassDone, CloseReady, CloseDone, OfferReady, Offered};
+ghost use lib.ListN.{length, replicate};
+ghost use Rattle.vee.specs.Tables.{Best, room, none};
+ghost use Rattle.vee.specs.Steps.{Adds, RowReady, RowDone, PassReady, PassDone, CloseReady, CloseDone, OfferReady, Offered, takesOf, OfferedOf, Begun};
+use plan::MOST_POINTS;
 
-// A table has a row of as many for each point.
-pub(crate) const SIDE: usize = 32;
+// A table has a row for each point, with a place for each point.
+pub(crate) const SIDE: usize = MOST_POINTS as usize;
 
 pub(crate) const ROOM: usize = SIDE * SIDE;
 
@@ -15,6 +16,13 @@ pub(crate) const ROOM: usize = SIDE * SIDE;
 pub(crate) const BIAS: u64 = 1125899906842624;
 
 pub(crate) const NONE: u64 = 4611686018427387904;
+
+// Which edges a table is of.
+pub(crate) enum Part {
+    All,
+    Falling,
+    Rising,
+}
 
 // The better of `a` and of the way by `b` and then `c`.
 fn best(a: u64, b: u64, c: u64) -> u64
@@ -86,5 +94,43 @@ pub(crate) fn offer(t: &mut [u64; ROOM], i: usize, j: usize, up: u64, down: u64)
     let p = i * SIDE + j;
     if v < t[p] {
         t[p] = v;
+    }
+}
+
+// Whether an edge of weight `up` less `down` is of the part.
+fn takes(part: Part, up: u64, down: u64) -> bool
+    ensures { λ r. ⌜ r ≡ takesOf part up down ⌝ }
+{
+    match part {
+        Part::All => true,
+        Part::Falling => up < down,
+        Part::Rising => down <= up,
+    }
+}
+
+// The same offer, made only if the edge is of the part.
+pub(crate) fn offer_of(t: &mut [u64; ROOM], part: Part, i: usize, j: usize, up: u64, down: u64)
+    requires { ⌜ OfferReady i j up down (now t) ⌝ }
+    ensures { λ _. ⌜ OfferedOf (takesOf part up down) i j up down (now (t .entry)) (now (t .exit)) ⌝ }
+{
+    if takes(part, up, down) {
+        offer(&mut *t, i, j, up, down);
+    }
+}
+
+// No walk joins any two points.
+fn clear(t: &mut [u64; ROOM])
+    ensures { λ _. ⌜ now (t .exit) ≡ replicate room none ⌝ }
+{
+    *t = [NONE; ROOM];
+}
+
+// A table without edges: each point is at no distance from itself.
+pub(crate) fn begin(t: &mut [u64; ROOM])
+    ensures { λ _. ⌜ Begun (now (t .exit)) ⌝ }
+{
+    clear(&mut *t);
+    for i in 0..SIDE {
+        t[i * SIDE + i] = BIAS;
     }
 }

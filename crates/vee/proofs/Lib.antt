@@ -4,3 +4,4 @@ pub mod Begins
 pub mod Offers
 pub mod Lays
 pub mod Searches
+pub mod Judges

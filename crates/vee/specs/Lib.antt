@@ -6,3 +6,6 @@ pub mod Sheet
 pub mod Filled
 pub mod Judging
 pub mod Pairs
+pub mod Laws
+pub mod PlanTest
+pub mod Walked

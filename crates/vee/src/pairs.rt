@@ -11,7 +11,7 @@ use crate::table::SIDE;
 // A pair of points, or none.
 pub(crate) enum Pair {
     None,
-    At(u64, u64),
+    At(u32, u32),
 }
 
 // The way down and then up is there, and no longer than `v`.
@@ -87,7 +87,7 @@ pub(crate) fn first_pair(
     for x in 0..n {
         let y = in_row(all, falls, rises, n, x);
         if y < n {
-            return Pair::At(x as u64, y as u64);
+            return Pair::At(x as u32, y as u32);
         }
     }
     Pair::None

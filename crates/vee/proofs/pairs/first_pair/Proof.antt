@@ -22,6 +22,12 @@ loop-holds c = record { within = omega arith; before = λ X Y h. absurd (omega a
 in-row-requires : tie.Need-in-row-requires Inv-loop μ-loop
 in-row-requires c κs = search needs
 
+cast-t8 : tie.Need-cast-t8 Inv-loop μ-loop
+cast-t8 c = omega arith
+
+cast-t9 : tie.Need-cast-t9 Inv-loop μ-loop
+cast-t9 c = omega arith
+
 returns : tie.Need-returns Inv-loop μ-loop
 returns c = found (c .before .before .before .loop .inv) (c .before .before .loop-test .taken) (c .if1 .taken) (c .before .in-row .ensures)
 
@@ -45,6 +51,8 @@ first-pair-spec =
     μ-loop
     loop-holds
     in-row-requires
+    cast-t8
+    cast-t9
     returns
     add-x
     loop-less

@@ -5,3 +5,4 @@ pub mod Offers
 pub mod Lays
 pub mod Searches
 pub mod Judges
+pub mod Walks

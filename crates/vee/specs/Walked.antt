@@ -7,8 +7,9 @@ use Rattle.network.specs.Passing.{Cycle, Good}
 use Rattle.vee.specs.declared.Answer.{Answer}
 use Rattle.vee.specs.declared.Answer.the-variants as answer
 use Rattle.vee.specs.Judging.{FirstBad}
-use Rattle.vee.specs.Sheet.{SheetReady}
-use Rattle.vee.specs.PlanTest.{mostProjections}
+use Rattle.plan.specs.Limits.{farthest}
+use Rattle.vee.specs.Sheet.{SheetReady, SheetEdge, firstAt, secondAt, overAt}
+use Rattle.vee.specs.PlanTest.{Span, projections, many, mostProjections, Found}
 
 pub record JudgeReady (s w : List ℕ) (m n i : ℕ) : Type 0 where
   pub ready : SheetReady s w m n
@@ -19,3 +20,25 @@ pub data JudgedOf (E : ℕ → ℕ → ℕ → ℕ → Type 0) (i : ℕ) : Answe
   is-good : Good E → JudgedOf E i (answer.Yes (i + 1))
   has-cycle : Cycle E → JudgedOf E i (answer.Cycle i)
   has-pair : {X Y : ℕ} → FirstBad E X Y → JudgedOf E i (answer.Pair i X Y)
+
+-- the link that row q has
+abbrev pub spanAt : List ℕ → ℕ → Span
+spanAt s q = record { over = overAt s q; least = firstAt s q; most = secondAt s q }
+
+-- the links of the k rows before row past
+unfoldable pub spansIn : List ℕ → ℕ → ℕ → List Span
+spansIn s past zero = []
+spansIn s past (suc k) = spanAt s (past - suc k) ∷ spansIn s past k
+
+-- the links ahead are there, each with a duration at least, and all their projections can be numbered
+pub record WalkReady (s w : List ℕ) (m n past ahead i : ℕ) : Type 0 where
+  pub ready : SheetReady s w m n
+  pub before : ahead ≤ past
+  pub rows : past ≤ m
+  pub some : (q : ℕ) → q < past → past ≤ q + ahead → firstAt s q ≤ secondAt s q
+  pub short : (q : ℕ) → q < past → past ≤ q + ahead → secondAt s q ≤ farthest
+  pub room : i + many (spansIn s past ahead) ≤ mostProjections
+
+-- what is found of their projections
+abbrev pub Walked : List ℕ → List ℕ → ℕ → ℕ → ℕ → ℕ → Answer → Type 0
+Walked s w m past ahead i r = Found (λ w. SheetEdge s w m) i (projections (spansIn s past ahead) w) r

@@ -1,11 +1,17 @@
 // The projections of a sheet, walked link by link, and each of them judged.
-ghost use Rattle.vee.specs.Sheet.{SheetReady, SheetEdge};
-ghost use Rattle.vee.specs.Walked.{JudgeReady, JudgedOf};
+ghost use mathlib.Core.Path.{_≡_};
+ghost use Prim.Native.Nat.{_<_};
+ghost use lib.ListN.{set};
+ghost use Rattle.vee.specs.Sheet.{SheetEdge};
+ghost use Rattle.vee.specs.Tables.{side};
+ghost use Rattle.vee.specs.Walked.{JudgeReady, JudgedOf, WalkReady, Walked};
 use crate::Answer;
 use crate::pairs::Pair;
 use crate::pairs::first_pair;
 use crate::sheet::SHEET;
+use crate::sheet::WIDTH;
 use crate::sheet::fill;
+use crate::sheet::index;
 use crate::table::Part;
 use crate::table::ROOM;
 use crate::table::SIDE;
@@ -37,4 +43,71 @@ fn judge(
         Pair::None => Answer::Yes(number + 1),
         Pair::At(x, y) => Answer::Pair(number, x, y),
     }
+}
+
+// The durations with `p` for the link that ends at `c`.
+fn lasting(durations: [u64; SIDE], c: usize, p: u64) -> [u64; SIDE]
+    requires { ⌜ c < side ⌝ }
+    ensures { λ w. ⌜ w ≡ set durations c p ⌝ }
+{
+    let mut w = durations;
+    w[c] = p;
+    w
+}
+
+// What is found of the projections that have these durations for all links but the `ahead` still open, the rows of
+// which end before row `past`; the first of those projections is number `number`.
+pub(crate) fn walk(
+    ahead: usize,
+    number: u32,
+    durations: [u64; SIDE],
+    sheet: &[u64; SHEET],
+    m: usize,
+    n: usize,
+    past: usize,
+    all: &mut [u64; ROOM],
+    falls: &mut [u64; ROOM],
+    rises: &mut [u64; ROOM],
+) -> Answer
+    requires { ⌜ WalkReady (now sheet) durations m n past ahead number ⌝ }
+    ensures { λ r. ⌜ Walked (now (sheet .entry)) durations m past ahead number r ⌝ }
+{
+    if ahead == 0 {
+        return judge(
+            number,
+            &durations,
+            sheet,
+            m,
+            n,
+            &mut *all,
+            &mut *falls,
+            &mut *rises,
+        );
+    }
+    let at = (past - ahead) * WIDTH;
+    let over = index(sheet[at + 5]);
+    let longest = sheet[at + 4];
+    let mut p = sheet[at + 3];
+    let mut next = number;
+    while p <= longest {
+        let chosen = lasting(durations, over, p);
+        let found = walk(
+            ahead - 1,
+            next,
+            chosen,
+            sheet,
+            m,
+            n,
+            past,
+            &mut *all,
+            &mut *falls,
+            &mut *rises,
+        );
+        let Answer::Yes(k) = found else {
+            return found;
+        };
+        next = k;
+        p += 1;
+    }
+    Answer::Yes(next)
 }

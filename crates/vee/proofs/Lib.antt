@@ -6,3 +6,5 @@ pub mod Lays
 pub mod Searches
 pub mod Judges
 pub mod Walks
+pub mod Layouts
+pub mod Counts

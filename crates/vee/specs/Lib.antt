@@ -9,3 +9,4 @@ pub mod Pairs
 pub mod Laws
 pub mod PlanTest
 pub mod Walked
+pub mod Layout

@@ -7,8 +7,9 @@ use Rattle.network.specs.Passing.{Cycle, Good}
 use Rattle.vee.specs.declared.Answer.{Answer}
 use Rattle.vee.specs.declared.Answer.the-variants as answer
 use Rattle.vee.specs.Judging.{FirstBad}
-use Rattle.plan.specs.Limits.{farthest}
-use Rattle.vee.specs.Sheet.{SheetReady, SheetEdge, firstAt, secondAt, overAt}
+use lib.ListN.{length}
+use Rattle.plan.specs.Limits.{farthest, mostRecords}
+use Rattle.vee.specs.Sheet.{SheetReady, SheetEdge, firstAt, secondAt, overAt, sheetRoom}
 use Rattle.vee.specs.PlanTest.{Span, projections, many, mostProjections, Found}
 
 pub record JudgeReady (s w : List ℕ) (m n i : ℕ) : Type 0 where
@@ -42,3 +43,16 @@ pub record WalkReady (s w : List ℕ) (m n past ahead i : ℕ) : Type 0 where
 -- what is found of their projections
 abbrev pub Walked : List ℕ → List ℕ → ℕ → ℕ → ℕ → ℕ → Answer → Type 0
 Walked s w m past ahead i r = Found (λ w. SheetEdge s w m) i (projections (spansIn s past ahead) w) r
+
+-- the k rows before row past are links with a duration at least
+pub record RowsReady (s : List ℕ) (past k : ℕ) : Type 0 where
+  pub long : length s ≡ sheetRoom
+  pub before : k ≤ past
+  pub rows : past ≤ mostRecords
+  pub some : (q : ℕ) → q < past → past ≤ q + k → firstAt s q ≤ secondAt s q
+  pub short : (q : ℕ) → q < past → past ≤ q + k → secondAt s q ≤ farthest
+
+-- how many projections they have, or more than are tested
+pub record CountedAs (s : List ℕ) (past k r : ℕ) : Type 0 where
+  pub few : r ≤ mostProjections → r ≡ many (spansIn s past k)
+  pub many-more : mostProjections < r → mostProjections < many (spansIn s past k)

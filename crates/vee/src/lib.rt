@@ -1,4 +1,5 @@
 // The plan test.
+mod layout;
 mod pairs;
 mod sheet;
 mod table;

@@ -4,7 +4,7 @@ ghost use Prim.Native.Nat.{_<_};
 ghost use lib.ListN.{set};
 ghost use Rattle.vee.specs.Sheet.{SheetEdge};
 ghost use Rattle.vee.specs.Tables.{side};
-ghost use Rattle.vee.specs.Walked.{JudgeReady, JudgedOf, WalkReady, Walked};
+ghost use Rattle.vee.specs.Walked.{JudgeReady, JudgedOf, WalkReady, Walked, RowsReady, CountedAs};
 use crate::Answer;
 use crate::pairs::Pair;
 use crate::pairs::first_pair;
@@ -15,6 +15,9 @@ use crate::sheet::index;
 use crate::table::Part;
 use crate::table::ROOM;
 use crate::table::SIDE;
+
+// The most projections that are tested.
+pub(crate) const MOST_PROJECTIONS: u64 = 4096;
 
 // What is found of one projection, which has a number.
 fn judge(
@@ -110,4 +113,21 @@ pub(crate) fn walk(
         p += 1;
     }
     Answer::Yes(next)
+}
+
+// How many projections the links of the `links` rows before row `past` have; once there are too many, some number that is
+// too many.
+pub(crate) fn projections(sheet: &[u64; SHEET], past: usize, links: usize) -> u64
+    requires { ⌜ RowsReady (now sheet) past links ⌝ }
+    ensures { λ r. ⌜ CountedAs (now (sheet .entry)) past links r ⌝ }
+{
+    let mut total: u64 = 1;
+    for k in 0..links {
+        let at = (past - (k + 1)) * WIDTH;
+        total = (sheet[at + 4] + 1 - sheet[at + 3]) * total;
+        if MOST_PROJECTIONS < total {
+            return total;
+        }
+    }
+    total
 }

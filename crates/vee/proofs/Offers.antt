@@ -1,0 +1,133 @@
+-- A table that edges are offered to, one after the other. Assumes nothing.
+use mathlib.Core.Path.{_≡_, refl, sym, subst}
+use mathlib.Core.Logic.{_⊎_, _≢_, inl, inr, ⊎-elim}
+use mathlib.Core.Bool.{Bool, true, false}
+use mathlib.Core.List.{List}
+use Prim.Native.Nat.{ℕ, _+_, _*_, _<_, _≤_}
+use native.Mathlib.Omega.{arith}
+use native.Mathlib.Nat.{add-zero}
+use native.Mathlib.Decide.{ℕ-discrete}
+use lib.ListN.{length, getD}
+use Rattle.network.specs.Walks.{Walk, nil, step}
+use Rattle.network.specs.Laws.{over}
+use Rattle.plan.specs.Limits.{farthest}
+use Rattle.vee.specs.declared.table.Part.{Part}
+use Rattle.vee.specs.Tables.{Table, bias, none, side, room, at, Within}
+use Rattle.vee.specs.Distances.{Attained, Drawn}
+use Rattle.vee.specs.Steps.{Offered, Offers, OfferedOf, takesOf, Begun}
+use Rattle.vee.specs.Sheet.{PartOf}
+
+-- what an offer does that is made, and one that is not
+pub made : {b : Bool} {i j u d : ℕ} {t t′ : List ℕ} → b ≡ true → Offered i j u d t t′ → OfferedOf b i j u d t t′
+made e o = record { long = o .long; does = rw e o }
+
+pub not-made : {b : Bool} {i j u d : ℕ} {t : List ℕ} → b ≡ false → length t ≡ room → OfferedOf b i j u d t t
+not-made e h = record { long = h; does = rw e refl }
+
+-- the edges E, and one more
+pub data Plus (E : ℕ → ℕ → ℕ → ℕ → Type 0) (i j v c X Y u d : ℕ) : Type 0 where
+  old : E X Y u d → Plus E i j v c X Y u d
+  new : X ≡ i → Y ≡ j → u ≡ v → d ≡ c → Plus E i j v c X Y u d
+
+-- edges that are the same either way
+pub same : {E F : ℕ → ℕ → ℕ → ℕ → Type 0} {n : ℕ} {f : Table} → ((X Y u d : ℕ) → E X Y u d → F X Y u d) → ((X Y u d : ℕ) → F X Y u d → E X Y u d) → Drawn E n f → Drawn F n f
+same to from d = record {
+  self = d .self;
+  edge = λ X Y u c e. d .edge X Y u c (from X Y u c e);
+  real = λ X Y hx hy h. let a = d .real X Y hx hy h in record { up = a .up; down = a .down; walk = over to (a .walk); weight = a .weight };
+  within = d .within;
+}
+
+module _ (E : ℕ → ℕ → ℕ → ℕ → Type 0) (n : ℕ) (few : n ≤ side) (t t′ : List ℕ) (dr : Drawn E n (at t)) (inside : (X Y u d : ℕ) → E X Y u d → (X < n) × (Y < n))
+    (i j v c : ℕ) (hi : i < n) (hj : j < n) (hv : v ≤ farthest) (hc : c ≤ farthest) (o : Offered i j v c t t′) where
+  -- what holds at the edge's place, and elsewhere of a table that is as it was, holds everywhere
+  places : (P : ℕ → ℕ → ℕ → Type 0) → P i j (at t′ i j) → ((x y : ℕ) → x < n → y < n → P x y (at t x y)) → (x y : ℕ) → x < n → y < n → P x y (at t′ x y)
+  places P here there x y hx hy = elim (ℕ-discrete x i) [
+    | yes e ↦ elim (ℕ-discrete y j) [
+      | yes e′ ↦ rw (e, e′) here
+      | no e′ ↦ rw (o .rest (x * side + y) (omega arith)) (there x y hx hy)
+    ]
+    | no e ↦ rw (o .rest (x * side + y) (omega arith)) (there x y hx hy)
+  ]
+
+  low : (x y : ℕ) → x < n → y < n → at t′ x y ≤ at t x y
+  low = places (λ x y a. a ≤ at t x y) (o .low) (λ x y hx hy. omega arith)
+
+  edge : (X Y u d : ℕ) → Plus E i j v c X Y u d → (at t′ X Y < none) × (at t′ X Y + d ≤ bias + u)
+  edge X Y u d (old e) = let h = inside X Y u d e in omega (arith, dr .edge X Y u d e, low X Y (h .0) (h .1))
+  edge X Y u d (new a b a′ b′) = rw (a, b, a′, b′) (omega (arith, o .via))
+
+  within : Within farthest n (at t′)
+  within = places (λ x y a. a < none → (bias ≤ a + farthest) × (a ≤ bias + farthest)) here (dr .within)
+    where
+      here : at t′ i j < none → (bias ≤ at t′ i j + farthest) × (at t′ i j ≤ bias + farthest)
+      here h = ⊎-elim (λ e. omega (arith, dr .within i j hi hj (omega arith))) (λ e. omega arith) (o .from)
+
+  abbrev Real : ℕ → ℕ → ℕ → Type 0
+  Real x y a = a < none → Attained (Plus E i j v c) x y a
+
+  was : (x y : ℕ) → x < n → y < n → Real x y (at t x y)
+  was x y hx hy h =
+      let a = dr .real x y hx hy h in
+      record { up = a .up; down = a .down; walk = over (λ X Y u d e. old e) (a .walk); weight = a .weight }
+
+  real : (x y : ℕ) → x < n → y < n → Real x y (at t′ x y)
+  real = places Real here was
+    where
+      here : Real i j (at t′ i j)
+      here h = ⊎-elim
+          (λ e. let k : Real i j (at t′ i j) = rw e (was i j hi hj) in k h)
+          (λ e. record { up = v + 0; down = c + 0; walk = step (new refl refl refl refl) nil; weight = omega arith })
+          (o .from)
+
+  pub plus : Drawn (Plus E i j v c) n (at t′)
+  plus = record { self = λ X h. omega (arith, dr .self X h, low X X h h); edge = edge; real = real; within = within }
+
+module _ (b : Part) (E : ℕ → ℕ → ℕ → ℕ → Type 0) (n : ℕ) (few : n ≤ side) (t t′ : List ℕ) (dr : Drawn (PartOf b E) n (at t)) (inside : (X Y u d : ℕ) → E X Y u d → (X < n) × (Y < n))
+    (i j v c : ℕ) (hi : i < n) (hj : j < n) (hv : v ≤ farthest) (hc : c ≤ farthest) where
+  -- the same for the edges of a part
+  pub plus-part : (b′ : Bool) → takesOf b v c ≡ b′ → Offers b′ i j v c t t′ → Drawn (PartOf b (Plus E i j v c)) n (at t′)
+  plus-part true e o = same to from (plus (PartOf b E) n few t t′ dr (λ X Y u d p. inside X Y u d (p .edge)) i j v c hi hj hv hc o)
+    where
+      to : (X Y u d : ℕ) → Plus (PartOf b E) i j v c X Y u d → PartOf b (Plus E i j v c) X Y u d
+      to X Y u d (old p) = record { edge = old (p .edge); taken = p .taken }
+      to X Y u d (new a a′ g g′) = record { edge = new a a′ g g′; taken = rw (g, g′) e }
+
+      from : (X Y u d : ℕ) → PartOf b (Plus E i j v c) X Y u d → Plus (PartOf b E) i j v c X Y u d
+      from X Y u d p = go (p .edge)
+        where
+          go : Plus E i j v c X Y u d → Plus (PartOf b E) i j v c X Y u d
+          go (old e′) = old (record { edge = e′; taken = p .taken })
+          go (new a a′ g g′) = new a a′ g g′
+  plus-part false e o = same to from (rw o dr)
+    where
+      to : (X Y u d : ℕ) → PartOf b E X Y u d → PartOf b (Plus E i j v c) X Y u d
+      to X Y u d p = record { edge = old (p .edge); taken = p .taken }
+
+      from : (X Y u d : ℕ) → PartOf b (Plus E i j v c) X Y u d → PartOf b E X Y u d
+      from X Y u d p = go (p .edge)
+        where
+          go : Plus E i j v c X Y u d → PartOf b E X Y u d
+          go (old e′) = record { edge = e′; taken = p .taken }
+          go (new a a′ g g′) =
+              let k : takesOf b v c ≡ true = rw (g, g′) at (p .taken) in
+              let z : _≡_ {A = ℕ} 0 1 = cc in
+              absurd (omega arith)
+
+-- a table without edges has none of them
+pub begun : (E : ℕ → ℕ → ℕ → ℕ → Type 0) (n : ℕ) (t : List ℕ) → n ≤ side → ((X Y u d : ℕ) → E X Y u d → ⊥) → Begun t → Drawn E n (at t)
+begun E n t few empty b = record { self = λ X h. omega (arith, b .self X (omega arith)); edge = λ X Y u d e. absurd (empty X Y u d e); real = real; within = within }
+  where
+    real : (X Y : ℕ) → X < n → Y < n → at t X Y < none → Attained E X Y (at t X Y)
+    real X Y hx hy h = elim (ℕ-discrete X Y) [
+      | yes e ↦
+          rw (← e)
+          (record { up = 0; down = 0; walk = nil; weight = omega (arith, b .self X (omega arith)) })
+      | no e ↦ absurd (omega (arith, b .other X Y (omega arith) (omega arith) e))
+    ]
+
+    within : Within farthest n (at t)
+    within X Y hx hy h = elim (ℕ-discrete X Y) [
+      | yes e ↦ rw (← e) (omega (arith, b .self X (omega arith)))
+      | no e ↦ absurd (omega (arith, b .other X Y (omega arith) (omega arith) e))
+    ]

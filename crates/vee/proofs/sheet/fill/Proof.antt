@@ -1,0 +1,22 @@
+-- `vee::sheet::fill` meets its contract. Assumes nothing.
+use Rattle.vee.proofs.Lays.{filled}
+use native.Mathlib.Omega.{arith}
+use borrow.Author.Needs.{needs}
+use Rattle.vee.proofs.sheet.fill.Statement.{statement}
+use Rattle.vee.proofs.sheet.fill.Tie as tie
+use Rattle.vee.proofs.sheet.fill.Reads as reads
+use Rattle.vee.proofs.sheet.fill.Lts as lts
+use Rattle.vee.proofs.sheet.draw.Reads as draw-reads
+use Rattle.vee.proofs.table.close.Reads as close-reads
+
+draw-requires : tie.Need-draw-requires
+draw-requires c κs = search needs
+
+close-requires : tie.Need-close-requires
+close-requires c κs = search needs
+
+returns : tie.Need-returns
+returns c = filled (c .before .before .before .before .pre) (c .before .before .draw .ensures) (c .close .ensures)
+
+pub fill-spec : {M : Type 1} → statement M
+fill-spec = tie.close (tie.spec draw-requires close-requires returns)

@@ -1,0 +1,52 @@
+-- `vee::sheet::put` meets its contract. Assumes nothing.
+use Rattle.vee.specs.Filled.{ordinary-put, wait-put, link-put, nothing-put}
+use mathlib.Core.Path.{refl}
+use native.Mathlib.Omega.{arith}
+use borrow.Author.Needs.{needs}
+use Rattle.vee.proofs.sheet.put.Statement.{statement}
+use Rattle.vee.proofs.sheet.put.Tie as tie
+use Rattle.vee.proofs.sheet.put.Reads as reads
+use Rattle.vee.proofs.sheet.put.Lts as lts
+use Rattle.vee.proofs.sheet.lesser.Reads as lesser-reads
+use Rattle.vee.proofs.table.offer_of.Reads as offer-of-reads
+
+offer-of-requires : tie.Need-offer-of-requires
+offer-of-requires c κs = let h = c .before .before .pre in record { long = h .long; from = h .from (omega arith); to = h .to (omega arith); up = h .first (omega arith); down = h .second (omega arith) }
+
+lesser-requires : tie.Need-lesser-requires
+lesser-requires c κs = search needs
+
+offer-of-requires-2 : tie.Need-offer-of-requires-2
+offer-of-requires-2 c κs = let h = c .before .before .before .before .pre in record { long = h .long; from = h .from (omega arith); to = h .to (omega arith); up = omega arith; down = omega (arith, h .first (omega arith)) }
+
+offer-of-requires-3 : tie.Need-offer-of-requires-3
+offer-of-requires-3 c κs = let h = c .before .before .before .before .pre in record { long = h .long; from = h .from (omega arith); to = h .to (omega arith); up = h .lasts; down = omega arith }
+
+offer-of-requires-4 : tie.Need-offer-of-requires-4
+offer-of-requires-4 c κs = let h = c .before .before .before .before .before .before .pre in record { long = c .before .offer-of3 .ensures .long; from = h .to (omega arith); to = h .from (omega arith); up = omega arith; down = h .lasts }
+
+returns : tie.Need-returns
+returns c = ordinary-put (c .before .before .if1 .taken) (c .offer-of .ensures)
+
+returns-2 : tie.Need-returns-2
+returns-2 c = wait-put (c .before .before .before .if2 .taken) (rw (← c .before .before .lesser .ensures) (c .offer-of2 .ensures))
+
+returns-3 : tie.Need-returns-3
+returns-3 c = link-put (c .before .before .before .before .if3 .taken) (c .before .before .offer-of3 .ensures) (c .offer-of4 .ensures)
+
+returns-4 : tie.Need-returns-4
+returns-4 c = nothing-put (c .if3 .left) (c .before .before .if1 .left) (c .before .if2 .left) refl
+
+pub put-spec : {M : Type 1} → statement M
+put-spec =
+    tie.close
+    (tie.spec
+    offer-of-requires
+    lesser-requires
+    offer-of-requires-2
+    offer-of-requires-3
+    offer-of-requires-4
+    returns
+    returns-2
+    returns-3
+    returns-4)

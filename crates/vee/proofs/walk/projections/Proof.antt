@@ -1,0 +1,94 @@
+-- `vee::walk::projections` meets its contract. Assumes nothing.
+use Rattle.vee.proofs.Counts.{Counting, none-counted, last-in, product-fits, over-many, counted-on, counted-all}
+use Prim.Native.Nat.{ℕ, _-_}
+use borrow.Author.Needs.{needs}
+use native.Mathlib.Omega.{arith}
+use Rattle.vee.proofs.walk.projections.Statement.{statement}
+use Rattle.vee.proofs.walk.projections.Tie as tie
+use Rattle.vee.proofs.walk.projections.Reads as reads
+use Rattle.vee.proofs.walk.projections.Lts as lts
+
+abbrev Inv-loop : tie.InvT-loop
+Inv-loop sheet past links total₀ k₀ total k = Counting sheet past links k total
+
+abbrev μ-loop : tie.MeasureT-loop
+μ-loop sheet past links total₀ k₀ total k = links - k
+
+loop-holds : tie.Need-loop-holds Inv-loop μ-loop
+loop-holds c = none-counted (c .pre)
+
+add-at : tie.Need-add-at Inv-loop μ-loop
+add-at c = omega (arith, c .before .before .pre .before, c .before .before .pre .rows, c .before .before .pre .long)
+
+sub-at : tie.Need-sub-at Inv-loop μ-loop
+sub-at c = omega (arith, c .before .before .pre .before, c .before .before .pre .rows, c .before .before .pre .long)
+
+mul-at : tie.Need-mul-at Inv-loop μ-loop
+mul-at c = omega (arith, c .before .before .pre .before, c .before .before .pre .rows, c .before .before .pre .long)
+
+add-total : tie.Need-add-total Inv-loop μ-loop
+add-total c = omega (arith, c .before .before .pre .before, c .before .before .pre .rows, c .before .before .pre .long)
+
+mul-total : tie.Need-mul-total Inv-loop μ-loop
+mul-total c = omega (arith, c .before .before .pre .before, c .before .before .pre .rows, c .before .before .pre .long)
+
+element-copy-out-total : tie.Need-element-copy-out-total Inv-loop μ-loop
+element-copy-out-total c = omega (arith, c .before .before .pre .before, c .before .before .pre .rows, c .before .before .pre .long)
+
+add-total-2 : tie.Need-add-total-2 Inv-loop μ-loop
+add-total-2 c = omega (arith, last-in (c .before .before .loop .inv) (c .before .loop-test .taken))
+
+add-total-3 : tie.Need-add-total-3 Inv-loop μ-loop
+add-total-3 c = omega (arith, c .before .before .before .pre .before, c .before .before .before .pre .rows, c .before .before .before .pre .long)
+
+mul-total-2 : tie.Need-mul-total-2 Inv-loop μ-loop
+mul-total-2 c = omega (arith, c .before .before .before .pre .before, c .before .before .before .pre .rows, c .before .before .before .pre .long)
+
+element-copy-out-total-2 : tie.Need-element-copy-out-total-2 Inv-loop μ-loop
+element-copy-out-total-2 c = omega (arith, c .before .before .before .pre .before, c .before .before .before .pre .rows, c .before .before .before .pre .long)
+
+sub-total : tie.Need-sub-total Inv-loop μ-loop
+sub-total c = omega (arith, last-in (c .before .before .before .loop .inv) (c .before .before .loop-test .taken))
+
+mul-total-3 : tie.Need-mul-total-3 Inv-loop μ-loop
+mul-total-3 c = product-fits (c .before .before .before .loop .inv) (c .before .before .loop-test .taken)
+
+returns : tie.Need-returns Inv-loop μ-loop
+returns c = over-many (c .before .before .before .before .loop .inv) (c .before .before .before .loop-test .taken) (c .if1 .taken)
+
+add-k : tie.Need-add-k Inv-loop μ-loop
+add-k c = omega arith
+
+loop-less : tie.Need-loop-less Inv-loop μ-loop
+loop-less c = omega arith
+
+loop-again : tie.Need-loop-again Inv-loop μ-loop
+loop-again c = counted-on (c .before .before .before .before .loop .inv) (c .before .before .before .loop-test .taken) (c .if1 .left)
+
+returns-2 : tie.Need-returns-2 Inv-loop μ-loop
+returns-2 c = counted-all (c .before .loop .inv) (c .loop-test .left)
+
+pub projections-spec : {M : Type 1} → statement M
+projections-spec =
+    tie.close
+    (tie.spec
+    Inv-loop
+    μ-loop
+    loop-holds
+    add-at
+    sub-at
+    mul-at
+    add-total
+    mul-total
+    element-copy-out-total
+    add-total-2
+    add-total-3
+    mul-total-2
+    element-copy-out-total-2
+    sub-total
+    mul-total-3
+    returns
+    add-k
+    loop-less
+    loop-again
+    returns-2)

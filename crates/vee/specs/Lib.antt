@@ -1,0 +1,12 @@
+pub mod Tables
+pub mod Distances
+pub mod Closing
+pub mod Steps
+pub mod Sheet
+pub mod Filled
+pub mod Judging
+pub mod Pairs
+pub mod Laws
+pub mod PlanTest
+pub mod Walked
+pub mod Layout

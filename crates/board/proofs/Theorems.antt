@@ -4,3 +4,6 @@ pub mod Each
 pub mod Soundness
 pub mod Links
 pub mod Low
+pub mod Marks
+pub mod Taking
+pub mod Offered

@@ -1,5 +1,5 @@
 -- What the board after an event holds: its points done at its minute, every other point as before, its minute the clock.
--- Assumes that the board has its room, and that the event's point, if it has one, is below 32.
+-- Assumes that the board has its room, and that the event's point, if it has one, is one of those that a board has room for.
 use mathlib.Core.Path.{_≡_, refl, sym, _∙_}
 use mathlib.Core.Logic.{_⊎_, inl, inr}
 use mathlib.Core.Bool.{Bool, true, false, not, _&&_, _||_, or-true, or-false, or-comm}

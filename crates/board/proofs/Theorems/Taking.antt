@@ -1,29 +1,31 @@
 -- Events that are taken: what their numbers say, and that the board after one is sound again, with more points done.
--- Assumes that the records keep the rules of a plan, that the board is sound and has its room, and that the event's set
--- is one of 32 bits.
+-- Assumes that the plan passes the check, that the board is sound and has its room, and that the event's set is one of
+-- 32 bits, as the four bytes of it are.
 use mathlib.Core.Path.{_≡_, refl, sym, _∙_}
 use mathlib.Core.Logic.{_⊎_, inl, inr}
 use mathlib.Core.Bool.{Bool, true, false, not, _&&_, _||_, or-true}
 use mathlib.Core.List.{List}
-use Prim.Native.Nat.{ℕ, _+_, _^_, _≤_, _<_, min}
+use Prim.Native.Nat.{ℕ, _+_, _^_, _≤_, _<_}
 use native.Mathlib.Omega.{arith}
 use lib.Dec.{eqb, ltb, leb}
 use lib.ListN.{length, getD}
 use borrow.Author.Tests.{ltb-true, ltb-false, leb-true, eqb-false, not-true, not-false}
 use Rattle.points.specs.Sets.{member, membersOf, belowOf, subsetOf, countOf, from, every, firstOf}
-use Rattle.points.specs.Laws.{member-below, subset-member, first-member}
+use Rattle.points.specs.Laws.{first-member}
 use Rattle.plan.specs.Choice.{if_then_else_}
 use Rattle.plan.specs.Limits.{mostPoints, farthest, recordBytes}
-use Rattle.plan.specs.APlan.{link, is, points, watched, linkTo, blank}
+use Rattle.plan.specs.APlan.{link, is, points, watched, linkTo, blank, recordsOf}
+use Rattle.plan.specs.ReplyNumbers.{checkOf}
 use Rattle.plan.specs.declared.Record.{Record}
+use Rattle.plan.specs.declared.Plan.{Plan}
 use Rattle.plan.proofs.Entries.{past}
-use Rattle.plan.proofs.Accepted.{Accepted}
+use Rattle.plan.proofs.Accepted.{Accepted, accepted-plan}
 use Rattle.board.specs.Boards.{isDone, minute, shortest, longest, running, each, sound}
 use Rattle.board.specs.Windows.{isOpen, foremans, low, someOpen}
 use Rattle.board.specs.Replies.{finished, stuck, latest}
 use Rattle.board.specs.Events.{eventMinute, eventPoint, eventSet, noPoint, wellFormed, endsRunning, inTime, notLate, eventNumber, boardAfter}
 use Rattle.board.specs.declared.Board.{Board}
-use Rattle.board.proofs.Theorems.Each.{clash, both, either, unless, every-point, every-member, each-at}
+use Rattle.board.proofs.Theorems.Each.{clash, both, either, unless, every-point, every-member, each-at, subset-below}
 use Rattle.board.proofs.Theorems.Soundness.{HeldBoard, Sound, SoundLink, sound-means, sound-from}
 use Rattle.board.proofs.Theorems.Links.{LinkOf, link-at, link-to}
 use Rattle.board.proofs.Theorems.Marks.{names, named, named-set, named-point, Marks, after-marks}
@@ -93,8 +95,7 @@ module _ (rs : List Record) (b : Board) (s : List ℕ) where
         unfinished = n21 .0;
         unstuck = n22 .0;
         placed = λ h. ltb-true _ _ (or-second _ _ (point .0) h);
-        inside = λ c l m.
-            omega (arith, ltb-true c (min (points rs) mostPoints) (sym (member-below (points rs) c) ∙ subset-member (eventSet s) (belowOf (points rs)) (set .0) c l m));
+        inside = subset-below (eventSet s) (points rs) (set .0);
         some = λ h. let n = eqb-false (eventSet s) 0 (not-both _ _ (set .1) h) in omega arith;
         later = ltb-false t (b .clock) (n24 .0);
         ends = λ c l m. both (watched rs c) _ (every-member (endsRunning rs b) (eventSet s) (not-false _ (n25 .0)) c l m);
@@ -269,17 +270,19 @@ module _ (rs : List Record) (ok : Accepted rs) (b : Board) (held : HeldBoard b) 
       past-after p l true e = omega (arith, marks .here p l e, marks .clock)
       past-after p l false e = omega (arith, marks .there p l e, marks .clock, w .past p l, t .later)
 
--- ---- for a plan and a board as a program has them
+-- ---- for a plan that passes the check
 
-module _ (rs : List Record) (ok : Accepted rs) (b : Board) (held : HeldBoard b) (good : sound rs b ≡ true) (s : List ℕ) (fits : eventSet s < 2 ^ 32) (e : eventNumber rs b s ≡ 0) where
+module _ (p : Plan) (ok : checkOf p .number ≡ 0) (b : Board) (held : HeldBoard b) (good : sound (recordsOf p) b ≡ true) (s : List ℕ) (fits : eventSet s < 2 ^ 32) (e : eventNumber (recordsOf p) b s ≡ 0) where
   -- The board after an event that is taken is sound.
-  pub event-sound : sound rs (boardAfter b s) ≡ true
-  event-sound = sound-from rs (boardAfter b s) (sound-after rs ok b held (sound-means rs b good) s fits (takes rs b s e))
+  pub event-sound : sound (recordsOf p) (boardAfter b s) ≡ true
+  event-sound =
+      sound-from (recordsOf p) (boardAfter b s)
+      (sound-after (recordsOf p) (accepted-plan p ok) b held (sound-means (recordsOf p) b good) s fits (takes (recordsOf p) b s e))
 
   -- An event that is taken marks all its points done at its minute, which becomes the clock, and changes nothing else.
   pub event-marks : Marks b s (boardAfter b s)
-  event-marks = marks rs ok b held (sound-means rs b good) s fits (takes rs b s e)
+  event-marks = marks (recordsOf p) (accepted-plan p ok) b held (sound-means (recordsOf p) b good) s fits (takes (recordsOf p) b s e)
 
   -- An event that is taken finishes at least one point.
   pub event-more : countOf (b .done) < countOf (boardAfter b s .done)
-  event-more = more rs ok b held (sound-means rs b good) s fits (takes rs b s e)
+  event-more = more (recordsOf p) (accepted-plan p ok) b held (sound-means (recordsOf p) b good) s fits (takes (recordsOf p) b s e)

@@ -13,7 +13,8 @@ use Rattle.plan.specs.APlan.{point, ordinary, wait, is, linkTo, blank, gapOf}
 use Rattle.plan.specs.declared.Record.{Record}
 use Rattle.plan.proofs.Accepted.{Accepted, not-a}
 use Rattle.board.specs.Boards.{isDone, minute, running}
-use Rattle.board.specs.Windows.{earliest, low}
+use Rattle.board.specs.Windows.{earliest, low, H}
+use Rattle.board.specs.Replies.{latest}
 use Rattle.board.specs.declared.Board.{Board}
 use Rattle.board.proofs.Theorems.Each.{both, greatest-le}
 use Rattle.board.proofs.Theorems.Soundness.{Sound}
@@ -43,6 +44,10 @@ module _ (rs : List Record) (ok : Accepted rs) (b : Board) (w : Sound rs b) (q :
           omega (arith, ok .each i h .wait-bounds o .1, t .long, w .past (l .a) (t .from))
       go false false e f = omega arith
 
-  -- Low is at most 100,000 past the clock, so a point that is held has its Low past H.
+  -- Low is at most 100,000 past the clock.
   pub low-near : low rs b q ≤ b .clock + farthest
   low-near = omega (arith, greatest-le (earliest rs b q) (b .clock + farthest) rs near-at)
+
+  -- A Low past the latest is past H.
+  pub held-past : latest rs b < low rs b q → H rs b < low rs b q + farthest
+  held-past h = omega (arith, low-near)

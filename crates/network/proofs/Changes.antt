@@ -5,7 +5,7 @@ use native.Mathlib.Omega.{arith}
 use Rattle.network.specs.Walks.{Walk, nil, step, Vee, vee}
 use Rattle.network.specs.Passing.{Dispatchable}
 use Rattle.network.specs.Laws.{vee-walk, lighter}
-use Rattle.network.proofs.States.{State, Done, Undone, clash, Invariant}
+use Rattle.network.proofs.States.{State, Done, Undone, clash, Invariant, Change, same, fresh, still, undone-before}
 use Rattle.network.proofs.Deadlines.{upward, Held, deadline}
 
 module _ (E : ℕ → ℕ → ℕ → ℕ → Type 0) where
@@ -17,12 +17,6 @@ module _ (E : ℕ → ℕ → ℕ → ℕ → Type 0) where
   pub data Why (s : State) (t X : ℕ) : Type 0 where
     opened : Free s t X → Why s t X
     ended : {A u d : ℕ} → E A X u d → Done s A → s .minute A + u ≤ t + d → Why s t X
-
-  -- what becomes of X between s and s′
-  pub data Change (s s′ : State) (t X : ℕ) : Type 0 where
-    same : Done s X → Done s′ X → s′ .minute X ≡ s .minute X → Change s s′ t X
-    fresh : Undone s X → Done s′ X → s′ .minute X ≡ t → Why s t X → Change s s′ t X
-    still : Undone s X → Undone s′ X → Change s s′ t X
 
   -- the minute v to which walks to Y are held: when it was done, or t
   data Aim (s : State) (t Y v : ℕ) : Type 0 where
@@ -48,26 +42,21 @@ module _ (E : ℕ → ℕ → ℕ → ℕ → Type 0) where
     from-new (opened k) a w = let b = lighter E dispatch w in omega (arith, from-free k a (b .walk))
     from-new (ended e x h) a w = omega (arith, from-old x a (step e w))
 
-    module _ (s′ : State) (change : (X : ℕ) → Change s s′ t X) (clock : s′ .clock ≡ t) where
-      from : {X Y v u d : ℕ} → Done s′ X → Change s s′ t X → Aim s t Y v → Walk E X Y u d → v + d ≤ s′ .minute X + u
+    module _ (s′ : State) (change : (X : ℕ) → Change (Why s t) s s′ t X) (clock : s′ .clock ≡ t) where
+      from : {X Y v u d : ℕ} → Done s′ X → Change (Why s t) s s′ t X → Aim s t Y v → Walk E X Y u d → v + d ≤ s′ .minute X + u
       from x (same h h′ e) a w = omega (arith, from-old h a w)
       from x (fresh h h′ e y) a w = omega (arith, from-new y a w)
       from x (still h h′) a w = clash x h′
 
-      aim-done : {Y : ℕ} → Done s′ Y → Change s s′ t Y → Aim s t Y (s′ .minute Y)
+      aim-done : {Y : ℕ} → Done s′ Y → Change (Why s t) s s′ t Y → Aim s t Y (s′ .minute Y)
       aim-done y (same h h′ e) = old h e
       aim-done y (fresh h h′ e k) = new h e
       aim-done y (still h h′) = clash y h′
-
-      aim-undone : {Y : ℕ} → Undone s′ Y → Change s s′ t Y → Aim s t Y t
-      aim-undone y (same h h′ e) = clash h′ y
-      aim-undone y (fresh h h′ e k) = clash h′ y
-      aim-undone y (still h h′) = new h refl
 
       pub changed : Invariant E s′
       changed =
           record {
             past = λ X x. omega (arith, aim-past (aim-done x (change X)));
             both = λ {X} {Y} x y w. from x (change X) (aim-done y (change Y)) w;
-            ahead = λ {X} {Y} x y w. omega (arith, from x (change X) (aim-undone y (change Y)) w);
+            ahead = λ {X} {Y} x y w. omega (arith, from x (change X) (new (undone-before y (change Y)) refl) w);
           }

@@ -4,3 +4,8 @@ pub mod Deadlines
 pub mod Changes
 pub mod Search
 pub mod Stuck
+pub mod Plans
+pub mod Projected
+pub mod Durations
+pub mod Safety
+pub mod Plays

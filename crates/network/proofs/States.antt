@@ -29,6 +29,25 @@ ask s X = go (s .done X) refl
 pub clash : {b : Bool} {A : Type 0} → b ≡ true → b ≡ false → A
 clash p q = let z : _≡_ {A = ℕ} 0 1 = cc in absurd (omega arith)
 
+-- what becomes of the point X from s to s′: it was done before, it is done at t, and P is why it may be, or it is still not
+-- done
+pub data Change (P : ℕ → Type 0) (s s′ : State) (t X : ℕ) : Type 0 where
+  same : Done s X → Done s′ X → s′ .minute X ≡ s .minute X → Change P s s′ t X
+  fresh : Undone s X → Done s′ X → s′ .minute X ≡ t → P X → Change P s s′ t X
+  still : Undone s X → Undone s′ X → Change P s s′ t X
+
+module _ {P : ℕ → Type 0} {s s′ : State} {t X : ℕ} where
+  -- what is done stays done, at its minute, and what is not done was not done
+  pub stays : Done s X → Change P s s′ t X → Done s′ X × (s′ .minute X ≡ s .minute X)
+  stays x (same h h′ e) = (h′, e)
+  stays x (fresh h h′ e p) = clash x h
+  stays x (still h h′) = clash x h
+
+  pub undone-before : Undone s′ X → Change P s s′ t X → Undone s X
+  undone-before x (same h h′ e) = clash h′ x
+  undone-before x (fresh h h′ e p) = clash h′ x
+  undone-before x (still h h′) = h
+
 module _ (E : ℕ → ℕ → ℕ → ℕ → Type 0) where
   -- done points keep every walk between them, and no walk from one has run out
   pub record Invariant (s : State) : Type 0 where

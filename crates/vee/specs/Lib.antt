@@ -1,0 +1,4 @@
+pub mod Tables
+pub mod Distances
+pub mod Closing
+pub mod Steps

@@ -2,3 +2,8 @@
 -- an accepted plan. Each file below says what it assumes.
 pub mod Each
 pub mod Soundness
+pub mod Links
+pub mod Low
+pub mod Marks
+pub mod Taking
+pub mod Offered

@@ -86,6 +86,10 @@ first-had so (x ∷ rs) r e = go (so x) e (first-had so rs r)
     go true e f = refl
     go false e f = f e
 
+-- A record of one kind is of no other.
+pub not-a : (r : Record) (j k : Kind) → (byteOf j ≡ byteOf k → ⊥) → is j r ≡ true → is k r ≡ false
+not-a r j k n e = ne-eqb (r .kind) (byteOf k) (λ f. n (sym (eqb-true (r .kind) (byteOf j) e) ∙ f))
+
 -- ---- bounds, as what they add and take away
 
 le-up : (x y : ℤ) → leZ x y ≡ true → gapOf x .up ≤ gapOf y .up
@@ -196,12 +200,9 @@ module _ (rs : List Record) (r : Record) (ok : numberOf (after rs) r 0 ≡ 0) wh
   new-names : is point r ≡ false → (r .a < points rs) × (r .b < points rs) × (r .a ≡ r .b → ⊥)
   new-names = two-names (kindOf (r .kind)) refl pass
 
-  not-a : (j k : Kind) → (byteOf j ≡ byteOf k → ⊥) → is j r ≡ true → is k r ≡ false
-  not-a j k n e = ne-eqb (r .kind) (byteOf k) (λ f. n (sym (eqb-true (r .kind) (byteOf j) e) ∙ f))
-
   new : Rules more r
   new =
-      let wait-link = not-a wait link (λ e. omega arith) in
+      let wait-link = not-a r wait link (λ e. omega arith) in
       record {
         known = pass .known;
         names = λ e. omega (arith, new-names e .0, new-names e .1, points-more);
@@ -212,7 +213,7 @@ module _ (rs : List Record) (r : Record) (ok : numberOf (after rs) r 0 ≡ 0) wh
             let low = le-up (pos 1) (r .first) (j .0) in
             (low, lt-up (r .first) (r .second) low (k .0), le-up (r .second) (pos farthest) (k .1));
         link-alone = λ e. first-so (endsAt (r .b)) rs r (link-joins e .1) (rw e (eq-eqb (r .b) (r .b) refl));
-        link-free = λ e. rw (some-snoc (endsAt (r .a)) rs r, e, ne-eqb (r .a) (r .b) (new-names (not-a link point (λ f. omega arith) e) .2)) (link-joins e .2);
+        link-free = λ e. rw (some-snoc (endsAt (r .a)) rs r, e, ne-eqb (r .a) (r .b) (new-names (not-a r link point (λ f. omega arith) e) .2)) (link-joins e .2);
         ordinary-bounds = λ e.
             let j = both (leZ (negℤ (pos farthest)) (r .first)) _ (of ordinary e refl .bounds) in
             (le-up (r .first) (pos farthest) (j .1), le-down (negℤ (pos farthest)) (r .first) (j .0));

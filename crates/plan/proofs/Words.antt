@@ -81,13 +81,15 @@ take-listed (suc n) (x ∷ s) h = ap (λ (t : List ℕ). x ∷ t) (take-listed n
 
 -- four bytes of s, read and written; and read as a signed number
 module _ (s : List ℕ) (h : All IsByte s) (i : ℕ) where
+  -- Four bytes stand for a number of thirty-two bits.
+  pub word-fits : wordAt s i < 2 ^ 32
+  word-fits = omega (arith, byte s h i, byte s h (i + 1), byte s h (i + 2), byte s h (i + 3))
+
   four : wordBytes (wordAt s i) ≡ getD s i 0 ∷ getD s (i + 1) 0 ∷ getD s (i + 2) 0 ∷ getD s (i + 3) 0 ∷ []
   four = bytes-of-word _ _ _ _ (byte s h i) (byte s h (i + 1)) (byte s h (i + 2)) (byte s h (i + 3))
 
   four-signed : wordBytes (bitsOf (signedOf (wordAt s i))) ≡ getD s i 0 ∷ getD s (i + 1) 0 ∷ getD s (i + 2) 0 ∷ getD s (i + 3) 0 ∷ []
-  four-signed =
-      let l : wordAt s i < 2 ^ 32 = omega (arith, byte s h i, byte s h (i + 1), byte s h (i + 2), byte s h (i + 3)) in
-      rw (bits-signed (wordAt s i) l) four
+  four-signed = rw (bits-signed (wordAt s i) word-fits) four
 
 -- Sixteen bytes, of which byte 3 is 0, are the bytes of the record that they stand for.
 pub bytes-back : (s : List ℕ) → All IsByte s → recordBytes ≤ length s → getD s 3 0 ≡ 0 → bytesOf (recordIn s) ≡ take recordBytes s

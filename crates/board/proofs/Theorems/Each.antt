@@ -3,14 +3,15 @@ use mathlib.Core.Path.{_≡_, refl, sym, _∙_}
 use mathlib.Core.Logic.{_⊎_, inl, inr}
 use mathlib.Core.Bool.{Bool, true, false, not, cond, _&&_, _||_, true≢false, and-true, and-false, or-true, and-eq-true-iff}
 use mathlib.Core.List.{List, [], _∷_, _++_}
-use Prim.Native.Nat.{ℕ, zero, suc, _+_, _≤_, _<_, max}
+use Prim.Native.Nat.{ℕ, zero, suc, _+_, _≤_, _<_, min, max}
 use native.Mathlib.Nat.{eq-or-lt-of-le}
 use native.Mathlib.Omega.{arith}
 use native.Mathlib.Decide.{decLt}
 use lib.Dec.{eqb}
 use lib.ListN.{length, getD}
-use borrow.Author.Tests.{eqb-true, eq-eqb}
-use Rattle.points.specs.Sets.{member, membersOf, from, every, passing}
+use borrow.Author.Tests.{ltb-true, lt-ltb, eqb-true, eq-eqb}
+use Rattle.points.specs.Laws.{member-below, subset-member, member-subset}
+use Rattle.points.specs.Sets.{belowOf, subsetOf, member, membersOf, from, every, passing}
 use Rattle.plan.specs.Limits.{mostPoints}
 use Rattle.plan.specs.APlan.{blank}
 use Rattle.plan.specs.declared.Record.{Record}
@@ -22,6 +23,10 @@ use Rattle.board.specs.declared.Board.{Board}
 
 pub clash : {A : Type 0} → true ≡ false → A
 clash e = absurd (true≢false e)
+
+-- what has two constructors equal has 0 and 1 equal
+pub differ : {A : Type 0} → _≡_ {A = ℕ} 0 1 → A
+differ e = absurd (omega arith)
 
 pub both : (a b : Bool) → (a && b) ≡ true → (a ≡ true) × (b ≡ true)
 both a b e = and-eq-true-iff a b .0 e
@@ -119,6 +124,13 @@ every-member test s e q l m = every-has test (membersOf s) e q (has-members s q 
 
 pub member-every : (test : ℕ → Bool) (s : ℕ) → ((q : ℕ) → q < mostPoints → member s q ≡ true → test q ≡ true) → every test (membersOf s) ≡ true
 member-every test s h = has-every test (membersOf s) (λ q k. let r = members-has s q k in h q (r .0) (r .1))
+
+-- The members of a set within the points below n are below n, and back.
+pub subset-below : (s n : ℕ) → subsetOf s (belowOf n) ≡ true → (q : ℕ) → q < mostPoints → member s q ≡ true → q < n
+subset-below s n e q l m = omega (arith, ltb-true q (min n mostPoints) (sym (member-below n q) ∙ subset-member s (belowOf n) e q l m))
+
+pub below-subset : (s n : ℕ) → ((q : ℕ) → q < mostPoints → member s q ≡ true → q < n) → subsetOf s (belowOf n) ≡ true
+below-subset s n h = member-subset s (belowOf n) (λ q l m. member-below n q ∙ lt-ltb q (min n mostPoints) (omega (arith, h q l m)))
 
 -- ---- records
 

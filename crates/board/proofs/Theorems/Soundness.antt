@@ -3,19 +3,19 @@ use mathlib.Core.Path.{_≡_, refl, sym, _∙_}
 use mathlib.Core.Logic.{_⊎_, inl, inr}
 use mathlib.Core.Bool.{Bool, true, false, not, _&&_, _||_}
 use mathlib.Core.List.{List}
-use Prim.Native.Nat.{ℕ, _+_, _*_, _^_, _≤_, _<_, min}
+use Prim.Native.Nat.{ℕ, _+_, _*_, _^_, _≤_, _<_}
 use native.Mathlib.Omega.{arith}
 use lib.Dec.{eqb, leb}
 use lib.ListN.{length, getD, getD-replicate}
-use borrow.Author.Tests.{ltb-true, lt-ltb, leb-true, le-leb, eqb-true, eq-eqb, not-true}
+use borrow.Author.Tests.{leb-true, le-leb, eqb-true, eq-eqb, not-true}
 use Rattle.points.specs.Sets.{membersOf, belowOf, subsetOf, countOf, from, every}
-use Rattle.points.specs.Laws.{member-empty, member-below, subset-member, member-subset}
+use Rattle.points.specs.Laws.{member-empty}
 use Rattle.plan.specs.Limits.{mostPoints, farthest}
 use Rattle.plan.specs.APlan.{link, is, points, blank}
 use Rattle.plan.specs.declared.Record.{Record}
 use Rattle.board.specs.Boards.{fresh, isDone, minute, shortest, longest, running, each, largest, fits, inBounds, sound}
 use Rattle.board.specs.declared.Board.{Board}
-use Rattle.board.proofs.Theorems.Each.{clash, both, and-both, unless, as-unless, every-point, point-every, has-members, members-has, each-at, at-each, largest-le, largest-ge, largest-at}
+use Rattle.board.proofs.Theorems.Each.{clash, both, and-both, unless, as-unless, every-point, point-every, has-members, members-has, each-at, at-each, subset-below, below-subset, largest-le, largest-ge, largest-at}
 
 -- what every board that a program can hold keeps
 pub record HeldBoard (b : Board) : Type 0 where
@@ -93,8 +93,7 @@ module _ (rs : List Record) (b : Board) where
       let fit : (p : ℕ) → p < mostPoints → ((isDone b p || eqb (minute b p) 0) ≡ true) × (leb (minute b p) (b .clock) ≡ true) =
       λ p l. both (isDone b p || eqb (minute b p) 0) _ (every-point (fits b) (s2 .0) p l) in
       record {
-        inside = λ p l d.
-            omega (arith, ltb-true p (min (points rs) mostPoints) (sym (member-below (points rs) p) ∙ subset-member (b .done) (belowOf (points rs)) (s1 .0) p l d));
+        inside = subset-below (b .done) (points rs) (s1 .0);
         nought = λ p l n. eqb-true _ _ (rw n at (fit p l .0));
         past = λ p l. leb-true _ _ (fit p l .1);
         attained = clock-means (s3 .0);
@@ -122,7 +121,7 @@ module _ (rs : List Record) (b : Board) where
     unfolding sound
     sound-from =
         and-both _ _
-        (member-subset (b .done) (belowOf (points rs)) (λ p l d. member-below (points rs) p ∙ lt-ltb p (min (points rs) mostPoints) (omega (arith, w .inside p l d))))
+        (below-subset (b .done) (points rs) (w .inside))
         (and-both _ _ (point-every (fits b) (λ p l. fit-from p l (isDone b p) refl))
         (and-both _ _ clock-from
         (and-both _ _ (at-each (inBounds b) rs (λ i h. link-from b (getD rs i blank) (w .links i h)))

@@ -1,0 +1,5 @@
+-- The theorems of the promise, for later crates to cite.
+pub mod Nets
+pub mod Boards
+pub mod Standing
+pub mod Executor

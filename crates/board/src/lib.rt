@@ -9,6 +9,7 @@ mod events;
 mod judging;
 mod links;
 mod sound;
+mod windows;
 
 use judging::first_broken;
 use links::links_of;

@@ -8,3 +8,4 @@ mod Broken
 mod Minus
 mod Windowing
 mod Opening
+mod Taking

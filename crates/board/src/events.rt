@@ -3,21 +3,30 @@
 ghost use mathlib.Core.Path.{_≡_};
 ghost use mathlib.Core.List.{[], _∷_};
 ghost use Prim.Native.Nat.{_+_, _≤_};
-ghost use lib.ListN.{length};
+ghost use lib.ListN.{length, getD};
 ghost use Rattle.points.specs.Sets.{membersOf, every};
 ghost use Rattle.plan.specs.Limits.{recordBytes};
 ghost use Rattle.plan.specs.APlan.{recordsOf};
 ghost use Rattle.plan.specs.PlanFile.{wordAt};
 ghost use Rattle.board.specs.Boards.{each};
 ghost use Rattle.board.specs.Events.{notLate, markAll};
-ghost use Rattle.board.specs.Inside.{eventIn, formedFor, runsAt, timely, timelyAt, clockAt, afterEvent};
+ghost use Rattle.board.specs.Inside.{LinksOf, eventIn, formedFor, runsAt, timely, timelyAt, setNumber, pointFrom, clockAt, afterEvent};
+use crate::BEFORE_CLOCK;
 use crate::Board;
+use crate::NOT_IN_TIME;
+use crate::NOT_OPEN;
+use crate::NOT_RUNNING;
+use crate::RUN_OUT;
+use crate::TOO_EARLY;
+use crate::TOO_LATE;
 use crate::links::End;
 use crate::links::Links;
 use crate::links::used;
 use crate::sound::first_points;
 use crate::sound::minute_of;
 use crate::sound::wide;
+use crate::windows::Windows;
+use plan::ACCEPTED;
 use plan::LINK;
 use plan::Plan;
 use plan::RECORD_BYTES;
@@ -148,6 +157,55 @@ fn none_late(plan: Plan, board: Board, t: u32, set: u32) -> bool
         i += 1;
     }
     true
+}
+
+// 24 to 27 in order, or else `next`.
+fn set_number(plan: Plan, board: Board, links: Links, e: Event, next: u32) -> u32
+    requires { ⌜ LinksOf (recordsOf plan) links ⌝ }
+    ensures { λ n. ⌜ n ≡ setNumber (recordsOf plan) board (e .minute) (e .set) next ⌝ }
+{
+    if e.minute < board.clock {
+        return BEFORE_CLOCK;
+    }
+    if !all_running(board.done, links, e.set) {
+        return NOT_RUNNING;
+    }
+    if !all_in_time(board, links, e.minute, e.set) {
+        return NOT_IN_TIME;
+    }
+    if !none_late(plan, board, e.minute, e.set) {
+        return RUN_OUT;
+    }
+    next
+}
+
+// The Low of a point; one past the last place has 0.
+fn low_of(w: Windows, p: u8) -> u32
+    ensures { λ m. ⌜ m ≡ getD (w .lows) p 0 ⌝ }
+{
+    if p < MOST {
+        let place = p as usize;
+        w.lows[place]
+    } else {
+        0
+    }
+}
+
+// 28 to 30 in order, or else 0.
+fn point_number(w: Windows, latest: u32, e: Event) -> u32
+    ensures { λ n. ⌜ n ≡ pointFrom w latest (e .minute) (e .point) ⌝ }
+{
+    let no_point = e.point == NO_POINT;
+    if !(no_point | has(w.opens, e.point)) {
+        return NOT_OPEN;
+    }
+    if !(no_point | (low_of(w, e.point) <= e.minute)) {
+        return TOO_EARLY;
+    }
+    if (w.opens != 0) & (latest < e.minute) {
+        return TOO_LATE;
+    }
+    ACCEPTED
 }
 
 // The points of a set done at the minute t, which is the clock.

@@ -1,11 +1,12 @@
 -- The modules of proofs that belong to no one function. Other crates cite the ones that are `pub`.
 mod Cases
-pub mod Theorems
 pub mod Records
 mod Linking
 mod Walks
 mod Broken
+pub mod Theorems
 mod Minus
 mod Windowing
 mod Opening
+mod Replying
 mod Taking

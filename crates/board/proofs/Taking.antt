@@ -3,14 +3,14 @@
 use mathlib.Core.Path.{_≡_, refl, sym, ap, _∙_}
 use mathlib.Core.Bool.{Bool, true, false, not, cond, _&&_, _||_, true≢false}
 use mathlib.Core.List.{List, [], _∷_}
-use Prim.Native.Nat.{ℕ, zero, suc, _+_, _≤_, _<_}
+use Prim.Native.Nat.{ℕ, zero, suc, _+_, _-_, _≤_, _<_, min}
 use native.Mathlib.Omega.{arith}
 use lib.Dec.{eqb, ltb, leb}
 use lib.ListN.{length, getD}
-use borrow.Author.Tests.{eqb-true, ltb-true, lt-ltb, eq-eqb, ne-eqb}
+use borrow.Author.Tests.{eqb-true, eqb-false, ltb-true, lt-ltb, eq-eqb, ne-eqb}
 use Rattle.points.specs.Sets.{member, membersOf, from, passing, every, belowOf, subsetOf}
 use Rattle.plan.specs.Choice.{if_then_else_}
-use Rattle.plan.specs.Limits.{mostPoints, recordBytes}
+use Rattle.plan.specs.Limits.{mostPoints, farthest, recordBytes}
 use Rattle.plan.specs.APlan.{points, watched, linkTo}
 use Rattle.plan.specs.PlanFile.{wordAt}
 use Rattle.plan.specs.declared.Record.{Record}
@@ -25,6 +25,7 @@ use Rattle.board.specs.declared.Taken.{Taken}
 use Rattle.board.specs.declared.links.Links.{Links}
 use Rattle.board.specs.declared.windows.Windows.{Windows}
 use Rattle.board.proofs.Windowing.{runs}
+use Rattle.board.proofs.Replying.{nothing-open, something-open}
 
 -- two tests that agree below 32 agree on the members of a set
 same-passing : (f g : ℕ → Bool) (s n p : ℕ) → ((q : ℕ) → q < p + n → f q ≡ g q) → every f (passing (member s) (from p n)) ≡ every g (passing (member s) (from p n))
@@ -59,10 +60,17 @@ module _ (rs : List Record) (l : Links) (w : LinksOf rs l) (b : Board) where
   all-timely t s = same-members (timelyAt b l t) (inTime rs b t) s (λ c h. rw (w .ends c h))
 
 -- the tests of the foreman's point
-module _ (rs : List Record) (b : Board) (w : Windows) (ws : WindowsOf rs b w) (some : someOpen rs b ≡ not (eqb (w .opens) 0)) where
-  pub point-same : (m t p : ℕ) → m ≡ latest rs b → (eqb p noPoint || ltb p mostPoints) ≡ true → pointFrom w m t p ≡ pointNumber rs b t p
+module _ (rs : List Record) (b : Board) (w : Windows) (ws : WindowsOf rs b w) where
+  some-opens : someOpen rs b ≡ not (eqb (w .opens) 0)
+  some-opens = go (eqb (w .opens) 0) refl
+    where
+      go : (k : Bool) → eqb (w .opens) 0 ≡ k → someOpen rs b ≡ not k
+      go true e = nothing-open rs b w ws (eqb-true (w .opens) 0 e)
+      go false e = something-open rs b w ws (eqb-false (w .opens) 0 e)
+
+  pub point-same : (m t p : ℕ) → m ≡ min (w .high) (b .clock + farthest + farthest) - farthest → (eqb p noPoint || ltb p mostPoints) ≡ true → pointFrom w m t p ≡ pointNumber rs b t p
   unfolding pointFrom pointNumber
-  point-same m t p e h = rw (e, some) (go (eqb p noPoint) h)
+  point-same m t p e h = rw (e, ws .high, some-opens) (go (eqb p noPoint) h)
     where
       last : ℕ
       last = if not (eqb (w .opens) 0) && ltb (latest rs b) t then 30 else 0

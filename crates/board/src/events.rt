@@ -9,28 +9,42 @@ ghost use Rattle.plan.specs.Limits.{recordBytes};
 ghost use Rattle.plan.specs.APlan.{recordsOf};
 ghost use Rattle.plan.specs.PlanFile.{wordAt};
 ghost use Rattle.board.specs.Boards.{each};
-ghost use Rattle.board.specs.Events.{notLate, markAll};
-ghost use Rattle.board.specs.Inside.{LinksOf, eventIn, formedFor, runsAt, timely, timelyAt, setNumber, pointFrom, clockAt, afterEvent};
+ghost use Rattle.board.specs.Events.{notLate, markAll, eventNumber, taken, takeOf};
+ghost use Rattle.board.specs.Inside.{LinksOf, eventIn, formedFor, runsAt, timely, timelyAt, setNumber, pointFrom, clockAt, afterEvent, takenNext};
+ghost use Rattle.board.specs.Inside2.{Ready};
+use crate::ALL_DONE;
 use crate::BEFORE_CLOCK;
 use crate::Board;
+use crate::IS_STUCK;
+use crate::NOT_FORMED;
 use crate::NOT_IN_TIME;
 use crate::NOT_OPEN;
 use crate::NOT_RUNNING;
 use crate::RUN_OUT;
 use crate::TOO_EARLY;
 use crate::TOO_LATE;
+use crate::Taken;
+use crate::UNSOUND;
 use crate::links::End;
 use crate::links::Links;
+use crate::links::links_of;
 use crate::links::used;
+use crate::replies::is_finished;
+use crate::replies::is_stuck;
+use crate::replies::latest_of;
 use crate::sound::first_points;
+use crate::sound::is_sound;
 use crate::sound::minute_of;
 use crate::sound::wide;
 use crate::windows::Windows;
+use crate::windows::windows_of;
 use plan::ACCEPTED;
 use plan::LINK;
 use plan::Plan;
 use plan::RECORD_BYTES;
 use plan::Record;
+use plan::check;
+use plan::points_of;
 use plan::split;
 use points::MOST;
 use points::first;
@@ -255,5 +269,65 @@ fn after(board: Board, e: Event) -> Board
         next
     } else {
         mark(next, e.point, e.minute)
+    }
+}
+
+// The number of an event on a sound board of an accepted plan. Windows are those of the board before the event.
+fn event_number(plan: Plan, board: Board, links: Links, event: &[u8]) -> u32
+    requires { ⌜ Ready plan board links ⌝ }
+    ensures { λ n. ⌜ n ≡ eventNumber (recordsOf plan) board (now (event .entry)) ⌝ }
+{
+    if is_finished(plan, board) {
+        return ALL_DONE;
+    }
+    let w = windows_of(plan, board, links);
+    if is_stuck(plan, board, w) {
+        return IS_STUCK;
+    }
+    if !is_formed(event, points_of(plan)) {
+        return NOT_FORMED;
+    }
+    let e = event_in(event);
+    let next = point_number(w, latest_of(board.clock, w.high), e);
+    set_number(plan, board, links, e, next)
+}
+
+fn answer(number: u32, place: u32, board: Board) -> Taken
+    ensures { λ t. ⌜ t ≡ taken number place board ⌝ }
+{
+    Taken {
+        number: number,
+        place: place,
+        board: board,
+    }
+}
+
+// One event on a sound board of an accepted plan.
+pub(crate) fn take_next(plan: Plan, board: Board, links: Links, event: &[u8]) -> Taken
+    requires { ⌜ Ready plan board links ⌝ }
+    ensures { λ t. ⌜ t ≡ takenNext (recordsOf plan) board (now (event .entry)) ⌝ }
+{
+    let number = event_number(plan, board, links, event);
+    if number != ACCEPTED {
+        return answer(number, 0, board);
+    }
+    let e = event_in(event);
+    answer(ACCEPTED, 0, after(board, e))
+}
+
+impl Board {
+    // Takes an event: the next board, or a number and the same board.
+    pub fn take(self, plan: Plan, event: &[u8]) -> Taken
+        ensures { λ t. ⌜ t ≡ takeOf plan self (now (event .entry)) ⌝ }
+    {
+        let found = check(plan);
+        if found.number != ACCEPTED {
+            return answer(found.number, found.place, self);
+        }
+        if !is_sound(plan, self) {
+            return answer(UNSOUND, 0, self);
+        }
+        let links = links_of(plan);
+        take_next(plan, self, links, event)
     }
 }

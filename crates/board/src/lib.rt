@@ -8,6 +8,7 @@ ghost use Rattle.board.specs.Verdicts.{verdictOf};
 mod events;
 mod judging;
 mod links;
+mod replies;
 mod sound;
 mod windows;
 
@@ -16,6 +17,7 @@ use links::links_of;
 use plan::ACCEPTED;
 use plan::Plan;
 use plan::check;
+pub use replies::reply_of;
 use sound::all_points;
 use sound::is_sound;
 

@@ -22,7 +22,8 @@ returns-2 c =
     let s = c .before .before .before .before .before in
     let a = s .args in
     let run = all-run (recordsOf (a .plan)) (a .links) (s .pre) (a .board) (a .e .set) in
-    rw (le-ltb _ _ (c .before .before .if1 .left), sym run ∙ sym (c .before .all-running .ensures) ∙ not-true _ (c .if2 .taken))
+    let r = rw (c .before .all-running .ensures, run) at (not-true (c .before .all-running .result) (c .if2 .taken)) in
+    rw (le-ltb _ _ (c .before .before .if1 .left), r)
 
 all-in-time-requires : tie.Need-all-in-time-requires
 all-in-time-requires c κs = search needs
@@ -34,7 +35,9 @@ returns-3 c =
     let a = s .args in
     let run = all-run (recordsOf (a .plan)) (a .links) (s .pre) (a .board) (a .e .set) in
     let timely = all-timely (recordsOf (a .plan)) (a .links) (s .pre) (a .board) (a .e .minute) (a .e .set) in
-    rw (le-ltb _ _ (c .before .before .before .before .if1 .left), sym run ∙ sym (c .before .before .before .all-running .ensures) ∙ not-false _ (c .before .before .if2 .left), sym timely ∙ sym (c .before .all-in-time .ensures) ∙ not-true _ (c .if3 .taken))
+    let r = rw (c .before .before .before .all-running .ensures, run) at (not-false (c .before .before .before .all-running .result) (c .before .before .if2 .left)) in
+    let i = rw (c .before .all-in-time .ensures, timely) at (not-true (c .before .all-in-time .result) (c .if3 .taken)) in
+    rw (le-ltb _ _ (c .before .before .before .before .if1 .left), r, i)
 
 none-late-requires : tie.Need-none-late-requires
 none-late-requires c κs = search needs
@@ -46,7 +49,10 @@ returns-4 c =
     let a = s .args in
     let run = all-run (recordsOf (a .plan)) (a .links) (s .pre) (a .board) (a .e .set) in
     let timely = all-timely (recordsOf (a .plan)) (a .links) (s .pre) (a .board) (a .e .minute) (a .e .set) in
-    rw (le-ltb _ _ (c .before .before .before .before .before .before .if1 .left), sym run ∙ sym (c .before .before .before .before .before .all-running .ensures) ∙ not-false _ (c .before .before .before .before .if2 .left), sym timely ∙ sym (c .before .before .before .all-in-time .ensures) ∙ not-false _ (c .before .before .if3 .left), sym (c .before .none-late .ensures) ∙ not-true _ (c .if4 .taken))
+    let r = rw (c .before .before .before .before .before .all-running .ensures, run) at (not-false (c .before .before .before .before .before .all-running .result) (c .before .before .before .before .if2 .left)) in
+    let i = rw (c .before .before .before .all-in-time .ensures, timely) at (not-false (c .before .before .before .all-in-time .result) (c .before .before .if3 .left)) in
+    let n = rw (c .before .none-late .ensures) at (not-true (c .before .none-late .result) (c .if4 .taken)) in
+    rw (le-ltb _ _ (c .before .before .before .before .before .before .if1 .left), r, i, n)
 
 returns-5 : tie.Need-returns-5
 unfolding setNumber
@@ -55,7 +61,10 @@ returns-5 c =
     let a = s .args in
     let run = all-run (recordsOf (a .plan)) (a .links) (s .pre) (a .board) (a .e .set) in
     let timely = all-timely (recordsOf (a .plan)) (a .links) (s .pre) (a .board) (a .e .minute) (a .e .set) in
-    rw (le-ltb _ _ (c .before .before .before .before .before .before .if1 .left), sym run ∙ sym (c .before .before .before .before .before .all-running .ensures) ∙ not-false _ (c .before .before .before .before .if2 .left), sym timely ∙ sym (c .before .before .before .all-in-time .ensures) ∙ not-false _ (c .before .before .if3 .left), sym (c .before .none-late .ensures) ∙ not-false _ (c .if4 .left))
+    let r = rw (c .before .before .before .before .before .all-running .ensures, run) at (not-false (c .before .before .before .before .before .all-running .result) (c .before .before .before .before .if2 .left)) in
+    let i = rw (c .before .before .before .all-in-time .ensures, timely) at (not-false (c .before .before .before .all-in-time .result) (c .before .before .if3 .left)) in
+    let n = rw (c .before .none-late .ensures) at (not-false (c .before .none-late .result) (c .if4 .left)) in
+    rw (le-ltb _ _ (c .before .before .before .before .before .before .if1 .left), r, i, n)
 
 pub set-number-spec : {M : Type 1} → statement M
 set-number-spec =

@@ -162,9 +162,12 @@ module _ (p : Plan) (ok : checkOf p .number ≡ 0) (b : Board) (held : HeldBoard
         past true o = le-ltb (latest rs b) (e .minute) (m .in-latest (is-offer o))
         past false o = refl
 
+  pub happens-reads : Reads (eventBytes e) e
+  happens-reads = reads e fits (m .small)
+
   -- What can happen next gets none of the numbers.
   pub happens : eventNumber (recordsOf p) b (eventBytes e) ≡ 0
-  happens = number (eventBytes e) (reads e fits (m .small))
+  happens = number (eventBytes e) happens-reads
 
   -- Its bytes are bytes.
   pub happens-bytes : All IsByte (eventBytes e)

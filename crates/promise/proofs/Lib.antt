@@ -7,3 +7,5 @@ pub mod Happening
 pub mod Gathering
 pub mod Making
 pub mod Play
+pub mod Players
+pub mod Lasting

@@ -36,6 +36,23 @@ use Rattle.promise.proofs.Boards.{ends-in-plan}
 use Rattle.promise.proofs.Gathering.{least-of-le, least-of-at, set-of-in, set-of-out, set-of-fits}
 use Rattle.promise.proofs.Executor.{outcome-is}
 
+-- what comes first is at the first end or before, and has all that ends then
+module _ (rs : List Record) (b : Board) (at : ℕ → ℕ) where
+  pub comes-first : (t q : ℕ)
+      → (comesFirst rs b at t q .minute ≤ firstEnd rs b at) × (comesFirst rs b at t q .set ≡ endingAt rs b at (comesFirst rs b at t q .minute))
+  comes-first t q = go (leb t (firstEnd rs b at)) refl
+    where
+      first : ℕ
+      first = firstEnd rs b at
+
+      both-ways : Bool → Event
+      both-ways l =
+          if l then record { minute = t; point = q; set = endingAt rs b at t } else record { minute = first; point = noPoint; set = endingAt rs b at first }
+
+      go : (l : Bool) → leb t first ≡ l → (both-ways l .minute ≤ first) × (both-ways l .set ≡ endingAt rs b at (both-ways l .minute))
+      go true e = (leb-true _ _ e, refl)
+      go false e = (omega arith, refl)
+
 module _ (p : Plan) (ok : checkOf p .number ≡ 0) (b : Board) (held : HeldBoard b) (good : sound (recordsOf p) b ≡ true) where
   abbrev rs : List Record
   rs = recordsOf p
@@ -56,6 +73,11 @@ module _ (p : Plan) (ok : checkOf p .number ≡ 0) (b : Board) (held : HeldBoard
       omega (arith, l .long, w .past _ (l .from))
 
   module _ (h : Haulage rs b) where
+    -- no running link ends before the first
+    pub first-le : (C : ℕ) → endsRunning rs b C ≡ true → firstEnd rs b (h .at) ≤ h .at C
+    first-le C r =
+        least-of-le (endsRunning rs b) (h .at) mostPoints 0 C (omega arith) (omega (arith, ends-in-plan rs known b C r .0, known .few)) r
+
     -- at a minute that is not past the first end, all that ends then
     at-minute : (t q : ℕ) → b .clock ≤ t → t ≤ firstEnd rs b (h .at) → (q ≡ noPoint → 0 < endingAt rs b (h .at) t)
         → (q ≡ noPoint) ⊎ ((low : ℕ) × (stateOf rs b q ≡ Offered low) × (low ≤ t)) → (replyOf p b .outcome ≡ Offers → t ≤ latest rs b)
@@ -74,9 +96,6 @@ module _ (p : Plan) (ok : checkOf p .number ≡ 0) (b : Board) (held : HeldBoard
           offered = offered;
           in-latest = in-latest;
         }
-      where
-        first-le : (C : ℕ) → endsRunning rs b C ≡ true → firstEnd rs b (h .at) ≤ h .at C
-        first-le C r = least-of-le (endsRunning rs b) (h .at) mostPoints 0 C (omega arith) (omega (arith, ends-in-plan rs known b C r .0, known .few)) r
 
     -- some link ends first
     first-ends : firstEnd rs b (h .at) < never → (b .clock ≤ firstEnd rs b (h .at)) × (0 < endingAt rs b (h .at) (firstEnd rs b (h .at)))
@@ -123,7 +142,7 @@ module _ (p : Plan) (ok : checkOf p .number ≡ 0) (b : Board) (held : HeldBoard
             let t = link-at rs known (i .0) (i .1) (both (is link (getD rs (i .0) blank)) _ r .0) in
             let C = getD rs (i .0) blank .b in
             let n : endsRunning rs b C ≡ true = rw (t .watched, t .alone) r in
-            near first (omega (arith, least-of-le (endsRunning rs b) (h .at) mostPoints 0 C (omega arith) (t .to) n, h .ends C n .2, end-near C n))
+            near first (omega (arith, first-le C n, h .ends C n .2, end-near C n))
 
         go : (l : Bool) → leb never first ≡ l
             → CanHappen p b (if l then record { minute = never; point = noPoint; set = endingAt rs b (h .at) never } else record { minute = first; point = noPoint; set = endingAt rs b (h .at) first })

@@ -55,7 +55,7 @@ module _ (p : Plan) (ok : checkOf p .number ≡ 0) (passes : PassesPlan p) where
     good : sound rs b ≡ true
     good = stands p ok passes r .good
 
-    free : finished rs b ≡ false → stuck rs b ≡ false
+    pub free : finished rs b ≡ false → stuck rs b ≡ false
     free = not-stuck rs known passes b (stands p ok passes r .held) (sound-means rs b good) (stands p ok passes r .safe)
 
     -- Whatever can happen next is accepted.

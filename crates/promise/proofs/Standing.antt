@@ -41,7 +41,7 @@ use Rattle.promise.proofs.Nets.{keeps, has-some, ordinary-in, wait-in, 
 use Rattle.promise.proofs.Boards.{saysOf, least-at, H-at, in-time-of, open-of, is-open, low-from}
 
 -- one of two answers for each number
-told : (f : ℕ → Bool) (q : ℕ) → (f q ≡ true) ⊎ (f q ≡ false)
+pub told : (f : ℕ → Bool) (q : ℕ) → (f q ≡ true) ⊎ (f q ≡ false)
 told f q = go (f q) refl
   where
     go : (b : Bool) → f q ≡ b → (f q ≡ true) ⊎ (f q ≡ false)

@@ -9,11 +9,11 @@ use lib.Dec.{eqb, leb}
 use Rattle.points.specs.Sets.{member, withOf, from}
 use Rattle.plan.specs.Choice.{if_then_else_}
 use Rattle.plan.specs.Limits.{mostPoints}
-use Rattle.plan.specs.APlan.{points, linkTo, recordsOf}
+use Rattle.plan.specs.APlan.{points, watched, linkTo, recordsOf}
 use Rattle.plan.specs.PlanFile.{wordBytes}
 use Rattle.plan.specs.declared.Record.{Record}
 use Rattle.plan.specs.declared.Plan.{Plan}
-use Rattle.board.specs.Boards.{fresh, sound, minute, shortest, longest}
+use Rattle.board.specs.Boards.{fresh, sound, isDone, minute, shortest, longest}
 use Rattle.board.specs.Windows.{never}
 use Rattle.board.specs.Replies.{finished, latest, stateOf, replyOf}
 use Rattle.board.specs.Events.{noPoint, endsRunning, takeOf}
@@ -101,9 +101,15 @@ comesFirst rs b at t q =
     else record { minute = firstEnd rs b at; point = noPoint; set = endingAt rs b at (firstEnd rs b at) }
 
 -- haulage and the foreman: what each decides after k events, at any board, as he likes
+abbrev pub Haulier : Plan → Type 0
+Haulier p = (k : ℕ) (b : Board) → sound (recordsOf p) b ≡ true → Haulage (recordsOf p) b
+
+abbrev pub Foreman : Plan → Type 0
+Foreman p = (k : ℕ) (b : Board) → replyOf p b .outcome ≡ Offers → Choice (recordsOf p) b
+
 pub record Players (p : Plan) : Type 0 where
-  pub haulage : (k : ℕ) (b : Board) → sound (recordsOf p) b ≡ true → Haulage (recordsOf p) b
-  pub foreman : (k : ℕ) (b : Board) → replyOf p b .outcome ≡ Offers → Choice (recordsOf p) b
+  pub haulage : Haulier p
+  pub foreman : Foreman p
 
 -- the event that they make: at an offer the foreman's choice or what ends before it, where the reply is waiting what ends
 -- first
@@ -126,3 +132,15 @@ pub record Finishes (p : Plan) (x : Players p) : Type 0 where
   pub few : events ≤ points (recordsOf p)
   pub finished : finished (recordsOf p) board ≡ true
   pub kept : verdictOf p board ≡ Kept
+
+-- ---- durations that are fixed beforehand
+
+-- haulage ends the link that ends at C when ω C minutes have passed, where they have not passed already
+pub record Fixed (p : Plan) (ω : ℕ → ℕ) (h : Haulier p) : Type 0 where
+  pub at : (k : ℕ) (b : Board) (g : sound (recordsOf p) b ≡ true) (C : ℕ) → b .clock ≤ minute b (linkTo (recordsOf p) C .a) + ω C
+      → h k b g .at C ≡ minute b (linkTo (recordsOf p) C .a) + ω C
+
+-- each link that has ended has lasted as many minutes as ω says
+abbrev pub Lasted : Plan → (ℕ → ℕ) → Board → Type 0
+Lasted p ω b =
+    (C : ℕ) → watched (recordsOf p) C ≡ true → isDone b C ≡ true → minute b C ≡ minute b (linkTo (recordsOf p) C .a) + ω C

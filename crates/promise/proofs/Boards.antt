@@ -20,7 +20,7 @@ use Rattle.plan.proofs.Accepted.{Accepted, not-a}
 use Rattle.board.specs.Boards.{isDone, minute, shortest, longest, running}
 use Rattle.board.specs.Windows.{shuts, foremans, isOpen, earliest, greatest, low, never, bound, least, high, leastHigh, H, someOpen, allAbove}
 use Rattle.board.specs.Replies.{stuck, latest}
-use Rattle.board.specs.Events.{eventMinute, eventPoint, eventSet, noPoint, boardAfter}
+use Rattle.board.specs.Events.{eventMinute, eventPoint, eventSet, noPoint, endsRunning, boardAfter}
 use Rattle.board.specs.declared.Board.{Board}
 use Rattle.board.proofs.Theorems.Each.{clash, both, and-both, unless, as-unless, every-point, point-every, greatest-le}
 use Rattle.board.proofs.Theorems.Soundness.{HeldBoard, Sound, SoundLink}
@@ -129,6 +129,13 @@ module _ (rs : List Record) (ok : Accepted rs) (b : Board) where
       let l = linkTo rs C in
       let g = both (isDone b (l .a)) (not (isDone b (l .b))) (both (is link l) _ e .1) in
       record { link = link-of rs ok C c; started = g .0; undone = rw (ok .ends C c .1) at (not-true (isDone b (l .b)) (g .1)) }
+
+  -- a point that ends a running link is in the plan, and not done
+  pub ends-in-plan : (C : ℕ) → endsRunning rs b C ≡ true → (C < points rs) × (isDone b C ≡ false)
+  ends-in-plan C h =
+      let k = both (watched rs C) _ h in
+      let r = running-of C (k .0) (k .1) in
+      (rules-of rs ok .link-points (r .link) .1, r .undone)
 
   pub is-running : {A x y C : ℕ} → Running (netOf rs) (saysOf b) A x y C → running b (linkTo rs C) ≡ true
   is-running {C = C} k =

@@ -47,7 +47,7 @@ byte-at (x ∷ s) h zero = h .0
 byte-at (x ∷ s) h (suc i) = byte-at s (h .1) i
 
 -- the set of an event is one of 32 bits
-set-fits : (s : List ℕ) → All IsByte s → eventSet s < 2 ^ 32
+pub set-fits : (s : List ℕ) → All IsByte s → eventSet s < 2 ^ 32
 set-fits s h = omega (arith, byte-at s h 8, byte-at s h 9, byte-at s h 10, byte-at s h 11)
 
 -- ---- the outcome
@@ -102,7 +102,8 @@ module _ (p : Plan) (ok : checkOf p .number ≡ 0) where
   unfolding takeOf
   take-is b s = rw ok
 
-  took : (b : Board) (s : List ℕ) → sound (recordsOf p) b ≡ true → takeOf p b s .number ≡ 0 → (eventNumber (recordsOf p) b s ≡ 0) × (takeOf p b s .board ≡ boardAfter b s)
+  -- an event of reply number 0 leads to the board after it
+  pub took : (b : Board) (s : List ℕ) → sound (recordsOf p) b ≡ true → takeOf p b s .number ≡ 0 → (eventNumber (recordsOf p) b s ≡ 0) × (takeOf p b s .board ≡ boardAfter b s)
   took b s g e = rw (take-is b s, g) (go (eqb (eventNumber (recordsOf p) b s) 0) refl (rw (take-is b s, g) at e))
     where
       go : (n : Bool) → eqb (eventNumber (recordsOf p) b s) 0 ≡ n → (if not n then taken (eventNumber (recordsOf p) b s) 0 b else taken 0 0 (boardAfter b s)) .number ≡ 0

@@ -41,7 +41,7 @@ use Rattle.promise.proofs.Nets.{keeps, has-some, ordinary-in, wait-in, 
 use Rattle.promise.proofs.Boards.{saysOf, least-at, H-at, in-time-of, open-of, is-open, low-from}
 
 -- one of two answers for each number
-told : (f : ℕ → Bool) (q : ℕ) → (f q ≡ true) ⊎ (f q ≡ false)
+pub told : (f : ℕ → Bool) (q : ℕ) → (f q ≡ true) ⊎ (f q ≡ false)
 told f q = go (f q) refl
   where
     go : (b : Bool) → f q ≡ b → (f q ≡ true) ⊎ (f q ≡ false)
@@ -82,6 +82,10 @@ module _ (rs : List Record) (b : Board) (held : HeldBoard b) (w : Sound rs b) wh
           go : (m : Bool) → member (belowOf (points rs)) q ≡ m → false ≡ m
           go true k = let i = ltb-true q _ (sym (member-below (points rs) q) ∙ k) in clash (sym (all q (omega arith)) ∙ h)
           go false k = refl
+
+-- On a finished board each point is done.
+pub all-done : (rs : List Record) (b : Board) → points rs ≤ mostPoints → finished rs b ≡ true → (X : ℕ) → X < points rs → isDone b X ≡ true
+all-done rs b few e X l = rw (eqb-true (b .done) (belowOf (points rs)) e) (member-below (points rs) X ∙ lt-ltb X _ (omega arith))
 
 -- where something is open, a point is
 one-open : (rs : List Record) (b : Board) → someOpen rs b ≡ true → (q : ℕ) × (isOpen rs b q ≡ true)
@@ -165,9 +169,6 @@ module _ (rs : List Record) (ok : Accepted rs) (passes : Passes (netOf rs)) (b :
 
   -- ---- the verdict
 
-  all-done : finished rs b ≡ true → (X : ℕ) → X < points rs → isDone b X ≡ true
-  all-done e X l = rw (eqb-true (b .done) (belowOf (points rs)) e) (member-below (points rs) X ∙ lt-ltb X _ (omega (arith, ok .few)))
-
   kept-at : finished rs b ≡ true → (i : ℕ) → i < length rs → kept rs b (getD rs i blank) ≡ true
   kept-at e i h = go (is ordinary r) (is wait r) refl refl
     where
@@ -176,13 +177,13 @@ module _ (rs : List Record) (ok : Accepted rs) (passes : Passes (netOf rs)) (b :
 
       go : (o v : Bool) → is ordinary r ≡ o → is wait r ≡ v → (if o then ordinaryKept b r else if v then waitKept b (linkTo rs (r .b)) r else true) ≡ true
       go true v f g =
-          le-leb _ _ (all-kept (rules-of rs ok) passes time safe (all-done e) .records (ordinary-in rs ok (record { place = i; listed = h; here = refl; kind = f })))
+          le-leb _ _ (all-kept (rules-of rs ok) passes time safe (all-done rs b (ok .few) e) .records (ordinary-in rs ok (record { place = i; listed = h; here = refl; kind = f })))
       go false true f g =
           let has : Has rs wait r = record { place = i; listed = h; here = refl; kind = g } in
           let c = keeps rs ok has .wait-watched g in
           let l = link-of rs ok (r .b) c in
-          let k = all-kept (rules-of rs ok) passes time safe (all-done e) .waits l (wait-in rs ok has) in
-          let d = time .ended l (all-done e (r .b) (rules-of rs ok .link-points l .1)) in
+          let k = all-kept (rules-of rs ok) passes time safe (all-done rs b (ok .few) e) .waits l (wait-in rs ok has) in
+          let d = time .ended l (all-done rs b (ok .few) e (r .b) (rules-of rs ok .link-points l .1)) in
           let a = minute b (linkTo rs (r .b) .a) in
           rw (ok .ends (r .b) c .1) (le-leb (a + min (gapOf (r .first) .up) (minute b (r .b) - a)) (minute b (r .a)) (omega (arith, k, d)))
       go false false f g = refl

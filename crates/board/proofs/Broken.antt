@@ -1,25 +1,24 @@
 -- The loop that looks for the first broken record: that a record is judged by its own points and by where the link to its
 -- second one starts, and what a turn, a broken record and the end give. Assumes nothing.
-use mathlib.Core.Path.{_≡_, refl, sym, ap, _∙_}
+use mathlib.Core.Path.{_≡_, refl}
 use mathlib.Core.Bool.{Bool, true, false}
-use mathlib.Core.List.{List, [], _∷_}
-use Prim.Native.Nat.{ℕ, suc, _+_, _-_, _%_, _≤_, _<_, min}
+use mathlib.Core.List.{List}
+use Prim.Native.Nat.{ℕ, _+_, _-_, _%_, _≤_, _<_, min}
 use native.Mathlib.Omega.{arith}
 use native.Mathlib.Numerals.{add-one}
-use lib.Dec.{eqb, leb}
+use lib.Dec.{leb}
 use lib.ListN.{length, drop, getD, drop-of-length-le}
 use lib.Seq.{drop-cons}
-use borrow.Author.Tests.{eqb-true, ne-eqb, le-leb, lt-leb}
+use borrow.Author.Tests.{eqb-true, ne-eqb}
 use Rattle.plan.specs.Choice.{if_then_else_}
 use Rattle.plan.specs.Limits.{mostPoints}
-use Rattle.plan.specs.APlan.{point, ordinary, wait, is, linkTo, gapOf, blank}
+use Rattle.plan.specs.APlan.{ordinary, wait, is, linkTo, gapOf, blank}
 use Rattle.plan.proofs.Accepted.{Rules, Accepted}
 use Rattle.plan.specs.declared.Record.{Record}
 use Rattle.board.specs.Boards.{minute}
 use Rattle.board.specs.Verdicts.{ordinaryKept, waitKept, kept, firstBroken}
-use Rattle.board.specs.Inside.{noEnd, endOf, LinksOf, keptFrom}
+use Rattle.board.specs.Inside.{noEnd, LinksOf, keptFrom}
 use Rattle.board.specs.declared.Board.{Board}
-use Rattle.board.specs.declared.Verdict.{Verdict}
 use Rattle.board.specs.declared.Verdict.the-variants.{Kept, Broken}
 use Rattle.board.specs.declared.links.Links.{Links}
 use Rattle.board.specs.declared.links.End.{End}

@@ -1,7 +1,7 @@
 -- The members of one set that are not in another, by the bits of both. Assumes nothing.
-use mathlib.Core.Path.{_≡_, refl, sym, ap, _∙_}
-use mathlib.Core.Bool.{Bool, true, false, not, _&&_}
-use Prim.Native.Nat.{ℕ, zero, suc, _+_, _*_, _/_, _%_, _^_, _<_, max}
+use mathlib.Core.Path.{_≡_, refl}
+use mathlib.Core.Bool.{not, _&&_}
+use Prim.Native.Nat.{ℕ, zero, suc, _/_, _%_, _^_, _<_}
 use native.Mathlib.Omega.{arith}
 use lib.Bits.{bitOr, bitXor, or-step, xor-step, or-shr, xor-shr, or-lt, xor-lt}
 use lib.Dec.{eqb}

@@ -1,28 +1,28 @@
 -- What an accepted plan and a sound board give the windows: records whose points have places and whose numbers are small;
 -- then which points are open, and H, from the tables. Assumes nothing.
-use mathlib.Core.Path.{_≡_, refl, sym, ap, _∙_}
+use mathlib.Core.Path.{_≡_, refl}
 use mathlib.Core.Logic.{inl, inr}
-use mathlib.Core.Bool.{Bool, true, false, not, cond, _&&_, _||_}
+use mathlib.Core.Bool.{Bool, true, false, not, cond, _&&_}
 use mathlib.Core.List.{List, [], _∷_}
-use Prim.Native.Nat.{ℕ, zero, suc, _+_, _*_, _%_, _^_, _≤_, _<_, min}
+use Prim.Native.Nat.{ℕ, zero, suc, _+_, _%_, _^_, _≤_, _<_, min}
 use native.Mathlib.Omega.{arith}
 use borrow.Author.Tests.{eqb-true}
-use lib.Dec.{eqb, ltb}
+use lib.Dec.{ltb}
 use lib.IntN.{ℤ, pos, negsuc}
 use lib.ListN.{length, getD}
-use Rattle.points.specs.Sets.{member, membersOf, belowOf, passing, from, every, countOf}
+use Rattle.points.specs.Sets.{member, membersOf, belowOf, passing, from, every}
 use Rattle.points.specs.Laws.{Turn, members-empty, member-below, count-le}
 use Rattle.plan.specs.Choice.{if_then_else_}
-use Rattle.plan.specs.Limits.{mostPoints, farthest}
-use Rattle.plan.specs.APlan.{point, link, ordinary, wait, is, some, points, watched, linkTo, gapOf, blank, recordsOf}
+use Rattle.plan.specs.Limits.{mostPoints}
+use Rattle.plan.specs.APlan.{point, link, ordinary, wait, is, some, points, watched, gapOf, blank}
 use Rattle.plan.proofs.Accepted.{Rules, Accepted}
 use Rattle.plan.specs.declared.Record.{Record}
 use Rattle.board.specs.Boards.{isDone}
-use Rattle.board.specs.Windows.{shuts, bound, least, never, isOpen, high, leastHigh, H}
-use Rattle.board.specs.Inside2.{Near, Small, TablesOf, WindowsOf, Minus, leastAt}
-use Rattle.board.proofs.Theorems.Each.{clash, either}
+use Rattle.board.specs.Windows.{shuts, never, isOpen, high, leastHigh, H}
+use Rattle.board.specs.Inside2.{Near, Small, TablesOf, Minus, leastAt}
+use Rattle.board.proofs.Theorems.Each.{either}
 use Rattle.board.proofs.Theorems.Soundness.{Sound}
-use Rattle.board.proofs.Windowing.{timed, Fine, least-le}
+use Rattle.board.proofs.Windowing.{timed, Fine}
 use Rattle.board.specs.declared.Board.{Board}
 
 -- ---- the records of an accepted plan

@@ -1,13 +1,13 @@
 -- The records that a loop over a plan passes, one after the other: how many there are, which one is next, and what one
 -- record more changes. Assumes nothing.
-use mathlib.Core.Path.{_≡_, refl, sym, ap, _∙_}
-use mathlib.Core.Bool.{Bool, true, false, _&&_, _||_}
+use mathlib.Core.Path.{_≡_, refl}
+use mathlib.Core.Bool.{Bool, true, false, _||_}
 use mathlib.Core.List.{List, [], _∷_, _++_}
-use Prim.Native.Nat.{ℕ, zero, suc, _+_, _≤_, _<_, min}
+use Prim.Native.Nat.{ℕ, _+_, _≤_, _<_, min}
 use native.Mathlib.Omega.{arith}
 use native.Mathlib.Numerals.{add-one}
-use lib.ListN.{length, take, drop, getD, length-take, drop-of-length-le}
-use lib.Seq.{take-suc, drop-cons, getD-take, take-all}
+use lib.ListN.{length, take, getD, length-take}
+use lib.Seq.{take-suc, getD-take, take-all}
 use Rattle.plan.specs.Choice.{if_then_else_}
 use Rattle.plan.specs.Limits.{mostRecords}
 use Rattle.plan.specs.APlan.{blank, some, firstThat, recordsOf}
@@ -21,6 +21,14 @@ module _ (p : Plan) (room : length (p .records) ≡ mostRecords) where
 
   pub record-at : (i : ℕ) → i < min (p .count) mostRecords → getD (recordsOf p) i blank ≡ getD (p .records) i blank
   record-at i h = getD-take (p .count) (p .records) i blank (omega arith)
+
+  -- what a loop over the first n records knows of the one at place i, and after the last
+  module _ (n : ℕ) (all : n ≡ min (p .count) mostRecords) (i : ℕ) where
+    pub next-record : i < n → (i < length (recordsOf p)) × (getD (recordsOf p) i blank ≡ getD (p .records) i blank)
+    next-record h = (omega (arith, used-records), record-at i (omega arith))
+
+    pub last-record : n ≤ i → length (recordsOf p) ≤ i
+    last-record h = omega (arith, used-records)
 
 or-swap : (a b c : Bool) → (a || (b || c)) ≡ (b || (a || c))
 or-swap true true c = refl

@@ -3,28 +3,27 @@
 use mathlib.Core.Path.{_≡_, refl, sym, ap, _∙_}
 use mathlib.Core.Bool.{Bool, true, false, not, cond, _&&_, _||_}
 use mathlib.Core.List.{List, [], _∷_, map}
-use Prim.Native.Nat.{ℕ, zero, suc, _+_, _*_, _-_, _^_, _≤_, _<_, min}
+use Prim.Native.Nat.{ℕ, zero, suc, _+_, _-_, _^_, _≤_, _<_, min}
 use native.Mathlib.Omega.{arith}
 use native.Mathlib.Decide.{ℕ-discrete}
 use borrow.Author.Tests.{ltb-true, ltb-false, lt-ltb, le-ltb, ne-eqb, not-true}
-use lib.Dec.{lit<, eqb, ltb}
-use lib.ListN.{length, getD, set, replicate, length-set, length-map, length-replicate, getD-replicate}
+use lib.Dec.{lit<, ltb}
+use lib.ListN.{length, getD, set, replicate, length-set, length-map, length-replicate}
 use lib.Seq.{getD-set-same, getD-set-other, ext-getD}
-use Rattle.points.specs.Sets.{member, membersOf, passing, from, every, countOf}
+use Rattle.points.specs.Sets.{member, membersOf, passing, from, every}
 use Rattle.points.specs.Laws.{member-empty, same-members, count-le}
-use Rattle.plan.specs.Choice.{if_then_else_}
 use Rattle.plan.specs.Limits.{mostPoints, farthest}
 use Rattle.plan.specs.APlan.{some, watched, recordsOf}
 use Rattle.plan.specs.ReplyNumbers.{checkOf}
 use Rattle.plan.specs.declared.Record.{Record}
 use Rattle.plan.specs.declared.Plan.{Plan}
 use Rattle.plan.specs.declared.Refusal.{Refusal}
-use Rattle.board.specs.Boards.{isDone, minute, running, each, sound}
+use Rattle.board.specs.Boards.{each, sound}
 use Rattle.board.specs.Windows.{isOpen, low, H, someOpen, allAbove}
 use Rattle.board.specs.Replies.{finished, stuck, outcomeOf, latest, stateOf, shut, bare, offer, soundReply, replyOf}
 use Rattle.board.specs.Inside.{LinksOf}
 use Rattle.board.specs.Inside2.{lastMinute, WindowsOf, stateFrom, placeFrom, offerFrom}
-use Rattle.board.proofs.Theorems.Each.{clash, every-point, point-every}
+use Rattle.board.proofs.Theorems.Each.{every-point, point-every}
 use Rattle.board.proofs.Theorems.Soundness.{Sound}
 use Rattle.board.specs.declared.Board.{Board}
 use Rattle.board.specs.declared.Place.{Place}

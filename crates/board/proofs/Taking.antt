@@ -1,8 +1,8 @@
 -- Taking an event: the tests of its set on a plan's links say what the rules say, and so do those of its point on the
 -- windows; then the number of the whole event, and the board after it. Assumes nothing.
-use mathlib.Core.Path.{_≡_, refl, sym, ap, _∙_}
+use mathlib.Core.Path.{_≡_, refl, sym}
 use mathlib.Core.Bool.{Bool, true, false, not, cond, _&&_, _||_, true≢false}
-use mathlib.Core.List.{List, [], _∷_}
+use mathlib.Core.List.{List, _∷_}
 use Prim.Native.Nat.{ℕ, zero, suc, _+_, _-_, _≤_, _<_, min}
 use native.Mathlib.Omega.{arith}
 use lib.Dec.{eqb, ltb, leb}
@@ -14,14 +14,13 @@ use Rattle.plan.specs.Limits.{mostPoints, farthest, recordBytes}
 use Rattle.plan.specs.APlan.{points, watched, linkTo}
 use Rattle.plan.specs.PlanFile.{wordAt}
 use Rattle.plan.specs.declared.Record.{Record}
-use Rattle.board.specs.Boards.{isDone, running, each}
+use Rattle.board.specs.Boards.{isDone, running}
 use Rattle.board.specs.Windows.{isOpen, low, someOpen}
 use Rattle.board.specs.Replies.{finished, stuck, latest}
-use Rattle.board.specs.Events.{eventMinute, eventPoint, eventSet, noPoint, wellFormed, endsRunning, inTime, notLate, eventNumber, boardAfter, taken}
-use Rattle.board.specs.Inside.{noEnd, endOf, LinksOf, eventIn, formedFor, runsAt, timelyAt, setNumber, pointNumber, pointFrom, afterEvent, takenNext}
+use Rattle.board.specs.Events.{eventMinute, eventPoint, eventSet, noPoint, wellFormed, endsRunning, inTime, eventNumber, boardAfter, taken}
+use Rattle.board.specs.Inside.{LinksOf, eventIn, formedFor, runsAt, timelyAt, setNumber, pointNumber, pointFrom, afterEvent, takenNext}
 use Rattle.board.specs.Inside2.{WindowsOf}
 use Rattle.board.specs.declared.Board.{Board}
-use Rattle.board.specs.declared.Taken.{Taken}
 use Rattle.board.specs.declared.links.Links.{Links}
 use Rattle.board.specs.declared.windows.Windows.{Windows}
 use Rattle.board.proofs.Windowing.{runs}

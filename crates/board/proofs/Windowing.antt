@@ -3,7 +3,7 @@
 use mathlib.Core.Path.{_≡_, refl, sym, ap, _∙_}
 use mathlib.Core.Bool.{Bool, true, false, not, _&&_, _||_}
 use mathlib.Core.List.{List, [], _∷_, _++_}
-use Prim.Native.Nat.{ℕ, zero, suc, _+_, _-_, _%_, _^_, _≤_, _<_, min, max}
+use Prim.Native.Nat.{ℕ, _+_, _%_, _^_, _≤_, _<_, min, max}
 use native.Mathlib.Omega.{arith}
 use native.Mathlib.Decide.{ℕ-discrete}
 use borrow.Author.Tests.{eqb-true, eq-eqb, ne-eqb}
@@ -13,8 +13,8 @@ use lib.Seq.{getD-set-same, getD-set-other}
 use Rattle.points.specs.Sets.{member, withOf}
 use Rattle.points.specs.Laws.{member-empty, member-small, member-with, with-fits}
 use Rattle.plan.specs.Choice.{if_then_else_}
-use Rattle.plan.specs.Limits.{mostPoints, farthest}
-use Rattle.plan.specs.APlan.{link, ordinary, wait, is, some, watched, endsAt, firstThat, linkTo, gapOf, blank}
+use Rattle.plan.specs.Limits.{mostPoints}
+use Rattle.plan.specs.APlan.{link, ordinary, wait, is, some, watched, endsAt, linkTo, gapOf, blank}
 use Rattle.plan.specs.declared.Record.{Record}
 use Rattle.plan.proofs.Accepted.{first-found}
 use Rattle.board.specs.Boards.{isDone, minute, running}
@@ -60,7 +60,7 @@ unfolding least
 least-snoc f [] r = omega arith
 least-snoc f (x ∷ rs) r = omega (arith, least-snoc f rs r)
 
-pub least-le : (f : Record → ℕ) (rs : List Record) → least f rs ≤ never
+least-le : (f : Record → ℕ) (rs : List Record) → least f rs ≤ never
 unfolding least
 least-le f [] = omega arith
 least-le f (x ∷ rs) = omega (arith, least-le f rs)

@@ -1,7 +1,7 @@
 -- What the crate's own functions keep of a plan, and what they answer of it: no reader of the open functions needs this
 -- page. Assumes nothing.
 use mathlib.Core.Path.{_≡_}
-use mathlib.Core.Bool.{Bool, true, false, not, _&&_, _||_}
+use mathlib.Core.Bool.{Bool, true, not, _&&_, _||_}
 use mathlib.Core.List.{List, [], _∷_, _++_}
 use Prim.Native.Nat.{ℕ, _+_, _-_, _<_, _^_, min}
 use lib.Dec.{eqb, ltb, leb}
@@ -14,7 +14,7 @@ use Rattle.plan.specs.PlanFile.{wordAt}
 use Rattle.plan.specs.declared.Record.{Record}
 use Rattle.board.specs.Boards.{minute, shortest, longest, each}
 use Rattle.board.specs.Windows.{isOpen, low, someOpen}
-use Rattle.board.specs.Replies.{finished, stuck, latest}
+use Rattle.board.specs.Replies.{latest}
 use Rattle.board.specs.Events.{eventMinute, eventPoint, eventSet, noPoint, endsRunning, inTime, notLate, markAll, eventNumber, boardAfter, taken}
 use Rattle.board.specs.Verdicts.{ordinaryKept}
 use Rattle.board.specs.declared.Board.{Board}

@@ -25,7 +25,6 @@ use Rattle.board.specs.declared.Outcome.the-variants.{Offers}
 use Rattle.board.specs.declared.Reply.{Reply}
 use Rattle.board.specs.declared.links.Links.{Links}
 use Rattle.board.specs.declared.windows.Said.{Said}
-use Rattle.board.specs.declared.windows.Tables.{Tables}
 use Rattle.board.specs.declared.windows.Windows.{Windows}
 
 -- no clock of a sound board is past this

@@ -1,9 +1,7 @@
 -- `board::verdict_of` meets its contract. Assumes nothing.
-use native.Mathlib.Omega.{arith}
 use borrow.Author.Needs.{needs}
-use mathlib.Core.Path.{_≡_, refl, sym, ap, _∙_}
+use mathlib.Core.Path.{sym, _∙_}
 use borrow.Author.Tests.{eq-eqb, ne-eqb, not-true, not-false}
-use Rattle.plan.specs.declared.Refusal.{Refusal}
 use Rattle.board.specs.Verdicts.{verdictOf}
 use Rattle.board.proofs.verdict_of.Statement.{statement}
 use Rattle.board.proofs.verdict_of.Tie as tie

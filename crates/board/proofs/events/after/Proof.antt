@@ -1,7 +1,5 @@
 -- `board::events::after` meets its contract. Assumes nothing.
-use native.Mathlib.Omega.{arith}
 use borrow.Author.Needs.{needs}
-use mathlib.Core.Path.{_≡_, refl, sym, ap, _∙_}
 use mathlib.Core.List.{append-nil}
 use borrow.Author.Tests.{eq-eqb, ne-eqb}
 use Rattle.board.proofs.Walks.{marks-append}

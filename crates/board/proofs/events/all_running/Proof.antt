@@ -1,9 +1,9 @@
 -- `board::events::all_running` meets its contract. Assumes nothing.
 use borrow.Author.Needs.{needs}
 use native.Mathlib.Omega.{arith}
-use mathlib.Core.Path.{_≡_, refl, sym, ap, _∙_}
+use mathlib.Core.Path.{_≡_, refl, sym, _∙_}
 use borrow.Author.Tests.{not-true, not-false}
-use Prim.Native.Nat.{ℕ, _<_, _^_}
+use Prim.Native.Nat.{_<_, _^_}
 use Rattle.points.specs.Sets.{membersOf, every, countOf}
 use Rattle.points.specs.Laws.{turn}
 use Rattle.board.specs.Inside.{runsAt}

@@ -1,5 +1,4 @@
 -- `board::events::event_in` meets its contract. Assumes nothing.
-use native.Mathlib.Omega.{arith}
 use borrow.Author.Needs.{needs}
 use Rattle.board.proofs.events.event_in.Statement.{statement}
 use Rattle.board.proofs.events.event_in.Tie as tie

@@ -1,7 +1,7 @@
 -- `board::events::event_number` meets its contract. Assumes nothing.
 use native.Mathlib.Omega.{arith}
 use borrow.Author.Needs.{needs}
-use mathlib.Core.Path.{_≡_, refl, sym, ap, _∙_}
+use mathlib.Core.Path.{sym, _∙_}
 use borrow.Author.Tests.{not-true, not-false}
 use Rattle.plan.specs.APlan.{recordsOf}
 use Rattle.plan.proofs.Accepted.{accepted-plan}

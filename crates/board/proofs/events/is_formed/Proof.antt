@@ -1,7 +1,5 @@
 -- `board::events::is_formed` meets its contract. Assumes nothing.
-use native.Mathlib.Omega.{arith}
 use borrow.Author.Needs.{needs}
-use mathlib.Core.Path.{_≡_, refl, sym, ap, _∙_}
 use borrow.Author.Tests.{eq-eqb, ne-eqb}
 use Rattle.board.specs.Inside.{formedFor}
 use Rattle.board.proofs.events.is_formed.Statement.{statement}

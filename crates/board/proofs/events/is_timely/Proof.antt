@@ -1,5 +1,4 @@
 -- `board::events::is_timely` meets its contract. Assumes nothing.
-use native.Mathlib.Omega.{arith}
 use borrow.Author.Needs.{needs}
 use Rattle.board.proofs.events.is_timely.Statement.{statement}
 use Rattle.board.proofs.events.is_timely.Tie as tie

@@ -1,8 +1,8 @@
 -- `board::events::low_of` meets its contract. Assumes nothing.
 use native.Mathlib.Omega.{arith}
 use borrow.Author.Needs.{needs}
-use mathlib.Core.Path.{_≡_, refl, sym, ap, _∙_}
-use lib.ListN.{length, length-map, List·getD-eq-default}
+use mathlib.Core.Path.{sym}
+use lib.ListN.{length-map, List·getD-eq-default}
 use Rattle.board.proofs.events.low_of.Statement.{statement}
 use Rattle.board.proofs.events.low_of.Tie as tie
 

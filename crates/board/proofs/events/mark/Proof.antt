@@ -1,8 +1,7 @@
 -- `board::events::mark` meets its contract. Assumes nothing.
 use native.Mathlib.Omega.{arith}
 use borrow.Author.Needs.{needs}
-use mathlib.Core.Path.{_≡_, refl, sym, ap, _∙_}
-use lib.ListN.{length, length-map}
+use lib.ListN.{length-map}
 use Rattle.board.proofs.Walks.{mark-one, mark-past}
 use Rattle.board.proofs.events.mark.Statement.{statement}
 use Rattle.board.proofs.events.mark.Tie as tie

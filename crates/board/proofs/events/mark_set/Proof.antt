@@ -1,14 +1,13 @@
 -- `board::events::mark_set` meets its contract. Assumes nothing.
 use borrow.Author.Needs.{needs}
 use native.Mathlib.Omega.{arith}
-use mathlib.Core.Path.{_≡_, refl, sym, ap, _∙_}
-use Prim.Native.Nat.{ℕ, _<_, _^_}
+use mathlib.Core.Path.{_≡_, refl, _∙_}
+use Prim.Native.Nat.{_<_, _^_}
 use lib.ListN.{length, length-map, length-set}
 use Rattle.points.specs.Sets.{membersOf, countOf}
 use Rattle.points.specs.Laws.{turn}
 use Rattle.board.specs.Events.{markAll}
 use Rattle.plan.specs.Limits.{mostPoints}
-use Rattle.board.specs.declared.Board.{Board}
 use Rattle.board.proofs.Walks.{marks-turn, marks-end}
 use Rattle.board.proofs.events.mark_set.Statement.{statement}
 use Rattle.board.proofs.events.mark_set.Tie as tie

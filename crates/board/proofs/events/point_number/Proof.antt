@@ -1,7 +1,5 @@
 -- `board::events::point_number` meets its contract. Assumes nothing.
-use native.Mathlib.Omega.{arith}
 use borrow.Author.Needs.{needs}
-use mathlib.Core.Path.{_≡_, refl, sym, ap, _∙_}
 use Rattle.board.specs.Inside.{pointFrom}
 use Rattle.board.proofs.events.point_number.Statement.{statement}
 use Rattle.board.proofs.events.point_number.Tie as tie

@@ -1,7 +1,5 @@
 -- `board::events::set_number` meets its contract. Assumes nothing.
-use native.Mathlib.Omega.{arith}
 use borrow.Author.Needs.{needs}
-use mathlib.Core.Path.{_≡_, refl, sym, ap, _∙_}
 use borrow.Author.Tests.{lt-ltb, le-ltb, not-true, not-false}
 use Rattle.plan.specs.APlan.{recordsOf}
 use Rattle.board.specs.Inside.{setNumber}

@@ -1,7 +1,6 @@
 -- `board::events::take_next` meets its contract. Assumes nothing.
 use native.Mathlib.Omega.{arith}
 use borrow.Author.Needs.{needs}
-use mathlib.Core.Path.{_≡_, refl, sym, ap, _∙_}
 use Rattle.plan.specs.APlan.{recordsOf}
 use Rattle.board.proofs.Taking.{taken-formed, formed-length, next-refused, next-taken}
 use Rattle.board.proofs.events.take_next.Statement.{statement}

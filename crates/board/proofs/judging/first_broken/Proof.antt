@@ -1,17 +1,17 @@
 -- `board::judging::first_broken` meets its contract. Assumes nothing.
 use borrow.Author.Needs.{needs}
 use native.Mathlib.Omega.{arith}
-use mathlib.Core.Path.{_≡_, refl, sym, ap, _∙_}
+use mathlib.Core.Path.{_≡_, refl, sym, _∙_}
 use borrow.Author.Tests.{not-true, not-false}
-use Prim.Native.Nat.{ℕ, _≤_, _<_, _-_, min}
+use Prim.Native.Nat.{_≤_, _-_, min}
 use lib.ListN.{length, drop, length-map}
-use Rattle.plan.specs.Limits.{mostPoints, mostRecords}
+use Rattle.plan.specs.Limits.{mostRecords}
 use Rattle.plan.specs.APlan.{recordsOf}
 use Rattle.plan.specs.ReplyNumbers.{checkOf}
 use Rattle.plan.proofs.Accepted.{accepted-plan}
 use Rattle.board.specs.Verdicts.{firstBroken}
 use Rattle.board.specs.Inside.{LinksOf}
-use Rattle.board.proofs.Records.{used-records, record-at}
+use Rattle.board.proofs.Records.{next-record, last-record}
 use Rattle.board.proofs.Broken.{kept-from, broken-here, broken-turn, broken-end}
 use Rattle.board.proofs.judging.first_broken.Statement.{statement}
 use Rattle.board.proofs.judging.first_broken.Tie as tie
@@ -57,12 +57,10 @@ returns c =
     let a = c .before .before .before .before .before .before .before .before .args in
     let i = c .before .before .before .before .before .before .loop .inv in
     let k = c .before .before .before .before .before .before .loop .i in
-    let h : k < min (a .t1 .count) mostRecords = omega (arith, c .before .before .before .before .before .loop-test .taken, i .1) in
-    let n = used-records (a .t1) (i .2) in
-    let r = record-at (a .t1) (i .2) k h in
-    let f = kept-from (recordsOf (a .t1)) (accepted-plan (a .t1) (i .3)) (a .t3) (i .4) (a .board) k (omega (arith, n)) _ r in
+    let w = next-record (a .t1) (i .2) _ (i .1) k (c .before .before .before .before .before .loop-test .taken) in
+    let f = kept-from (recordsOf (a .t1)) (accepted-plan (a .t1) (i .3)) (a .t3) (i .4) (a .board) k (w .0) _ (w .1) in
     let g = sym f ∙ sym (c .before .is-kept .ensures) ∙ not-true _ (c .if1 .taken) in
-    broken-here (recordsOf (a .t1)) (a .board) k (omega (arith, n)) (rw r g) ∙ i .5
+    broken-here (recordsOf (a .t1)) (a .board) k (w .0) (rw (w .1) g) ∙ i .5
 
 add-i : tie.Need-add-i Inv-loop μ-loop
 add-i c = search needs
@@ -75,19 +73,16 @@ loop-again c =
     let a = c .before .before .before .before .before .before .before .before .args in
     let i = c .before .before .before .before .before .before .loop .inv in
     let k = c .before .before .before .before .before .before .loop .i in
-    let h : k < min (a .t1 .count) mostRecords = omega (arith, c .before .before .before .before .before .loop-test .taken, i .1) in
-    let n = used-records (a .t1) (i .2) in
-    let r = record-at (a .t1) (i .2) k h in
-    let f = kept-from (recordsOf (a .t1)) (accepted-plan (a .t1) (i .3)) (a .t3) (i .4) (a .board) k (omega (arith, n)) _ r in
+    let w = next-record (a .t1) (i .2) _ (i .1) k (c .before .before .before .before .before .loop-test .taken) in
+    let f = kept-from (recordsOf (a .t1)) (accepted-plan (a .t1) (i .3)) (a .t3) (i .4) (a .board) k (w .0) _ (w .1) in
     let g = sym f ∙ sym (c .before .is-kept .ensures) ∙ not-false _ (c .if1 .left) in
-    (omega arith, i .1, i .2, i .3, i .4, sym (broken-turn (recordsOf (a .t1)) (a .board) k (omega (arith, n)) (rw r g)) ∙ i .5)
+    (omega arith, i .1, i .2, i .3, i .4, sym (broken-turn (recordsOf (a .t1)) (a .board) k (w .0) (rw (w .1) g)) ∙ i .5)
 
 returns-2 : tie.Need-returns-2 Inv-loop μ-loop
 returns-2 c =
     let a = c .before .before .before .args in
     let i = c .before .loop .inv in
-    let n = used-records (a .t1) (i .2) in
-    broken-end (recordsOf (a .t1)) (a .board) (c .before .loop .i) (omega (arith, n)) ∙ i .5
+    broken-end (recordsOf (a .t1)) (a .board) (c .before .loop .i) (last-record (a .t1) (i .2) _ (i .1) _ (c .loop-test .left)) ∙ i .5
 
 pub first-broken-spec : {M : Type 1} → statement M
 first-broken-spec =

@@ -1,5 +1,4 @@
 -- `board::judging::ordinary_kept` meets its contract. Assumes nothing.
-use native.Mathlib.Omega.{arith}
 use borrow.Author.Needs.{needs}
 use Rattle.board.proofs.judging.ordinary_kept.Statement.{statement}
 use Rattle.board.proofs.judging.ordinary_kept.Tie as tie

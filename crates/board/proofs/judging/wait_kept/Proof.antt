@@ -1,7 +1,7 @@
 -- `board::judging::wait_kept` meets its contract. Assumes nothing.
 use native.Mathlib.Omega.{arith}
 use borrow.Author.Needs.{needs}
-use mathlib.Core.Path.{_≡_, refl}
+use mathlib.Core.Path.{_≡_}
 use Prim.Native.Nat.{_+_, _-_, min}
 use Rattle.board.proofs.judging.wait_kept.Statement.{statement}
 use Rattle.board.proofs.judging.wait_kept.Tie as tie

@@ -1,11 +1,8 @@
 -- `board::links::end_after` meets its contract. Assumes nothing.
-use native.Mathlib.Omega.{arith}
 use borrow.Author.Needs.{needs}
-use mathlib.Core.Path.{_≡_, refl, sym, ap, _∙_}
 use mir.Syntax.{w32}
 use mir.ValLaws.{toZ-ofZ}
 use borrow.Author.Needs.{sfits-of}
-use Rattle.plan.specs.declared.Gap.{Gap}
 use Rattle.board.proofs.links.end_after.Statement.{statement}
 use Rattle.board.proofs.links.end_after.Tie as tie
 

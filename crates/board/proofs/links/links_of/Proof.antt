@@ -1,13 +1,13 @@
 -- `board::links::links_of` meets its contract. Assumes nothing.
 use borrow.Author.Needs.{needs}
 use native.Mathlib.Omega.{arith}
-use mathlib.Core.Path.{_≡_, refl, sym, ap, _∙_}
-use Prim.Native.Nat.{ℕ, _≤_, _<_, _-_, min}
+use mathlib.Core.Path.{_≡_}
+use Prim.Native.Nat.{_≤_, _-_, min}
 use lib.ListN.{length, take, length-map}
 use Rattle.plan.specs.Limits.{mostRecords}
 use Rattle.plan.specs.APlan.{recordsOf}
 use Rattle.board.specs.Inside.{LinksOf}
-use Rattle.board.proofs.Records.{used-records, record-at, all-of}
+use Rattle.board.proofs.Records.{next-record, last-record, all-of}
 use Rattle.board.proofs.Linking.{linksAs, links-none, links-turn}
 use Rattle.board.proofs.links.links_of.Statement.{statement}
 use Rattle.board.proofs.links.links_of.Tie as tie
@@ -65,17 +65,14 @@ loop-again c =
     let p = c .before .before .before .before .before .before .before .before .args .t1 in
     let i = c .before .before .before .before .before .before .loop .inv in
     let k = c .before .before .before .before .before .before .loop .i in
-    let h : k < min (p .count) mostRecords = omega (arith, c .before .before .before .before .before .loop-test .taken, i .1) in
-    let n = used-records p (i .2) in
-    let r = record-at p (i .2) k h in
-    (omega arith, i .1, i .2, rw (c .watched-after .ensures, c .before .end-after .ensures) (links-turn (recordsOf p) k _ _ (i .3) (omega (arith, n)) _ r))
+    let w = next-record p (i .2) _ (i .1) k (c .before .before .before .before .before .loop-test .taken) in
+    (omega arith, i .1, i .2, rw (c .watched-after .ensures, c .before .end-after .ensures) (links-turn (recordsOf p) k _ _ (i .3) (w .0) _ (w .1)))
 
 returns : tie.Need-returns Inv-loop μ-loop
 returns c =
     let p = c .before .before .before .args .t1 in
     let i = c .before .loop .inv in
-    let n = used-records p (i .2) in
-    rw (all-of (recordsOf p) (c .before .loop .i) (omega (arith, n))) at (i .3)
+    rw (all-of (recordsOf p) (c .before .loop .i) (last-record p (i .2) _ (i .1) _ (c .loop-test .left))) at (i .3)
 
 pub links-of-spec : {M : Type 1} → statement M
 links-of-spec =

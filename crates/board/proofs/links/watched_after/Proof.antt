@@ -1,5 +1,4 @@
 -- `board::links::watched_after` meets its contract. Assumes nothing.
-use native.Mathlib.Omega.{arith}
 use borrow.Author.Needs.{needs}
 use borrow.Author.Tests.{eq-eqb, ne-eqb}
 use Rattle.board.proofs.links.watched_after.Statement.{statement}

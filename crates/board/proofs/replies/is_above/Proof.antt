@@ -1,7 +1,6 @@
 -- `board::replies::is_above` meets its contract. Assumes nothing.
-use borrow.Author.Needs.{needs}
 use native.Mathlib.Omega.{arith}
-use mathlib.Core.Path.{_≡_, sym}
+use mathlib.Core.Path.{sym}
 use Prim.Native.Nat.{_+_}
 use Rattle.plan.specs.Limits.{farthest}
 use borrow.Author.Tests.{lt-ltb}

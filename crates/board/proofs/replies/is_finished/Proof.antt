@@ -1,5 +1,4 @@
 -- `board::replies::is_finished` meets its contract. Assumes nothing.
-use native.Mathlib.Omega.{arith}
 use borrow.Author.Needs.{needs}
 use Rattle.board.proofs.replies.is_finished.Statement.{statement}
 use Rattle.board.proofs.replies.is_finished.Tie as tie

@@ -1,7 +1,6 @@
 -- `board::replies::is_stuck` meets its contract. Assumes nothing.
-use native.Mathlib.Omega.{arith}
 use borrow.Author.Needs.{needs}
-use mathlib.Core.Path.{_≡_, sym, _∙_}
+use mathlib.Core.Path.{_∙_}
 use Rattle.plan.specs.APlan.{recordsOf}
 use Rattle.board.proofs.Replying.{nothing-open, something-open, above-here}
 use Rattle.board.proofs.replies.is_stuck.Statement.{statement}

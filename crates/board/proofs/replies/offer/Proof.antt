@@ -3,7 +3,7 @@ use borrow.Author.Needs.{needs}
 use native.Mathlib.Omega.{arith}
 use mathlib.Core.Path.{ap}
 use mathlib.Core.List.{List}
-use Prim.Native.Nat.{ℕ, _≤_, _-_}
+use Prim.Native.Nat.{_≤_, _-_}
 use Rattle.board.specs.declared.Place.{Place}
 use Rattle.board.specs.declared.Outcome.the-variants.{Offers}
 use Rattle.plan.specs.Limits.{mostPoints}

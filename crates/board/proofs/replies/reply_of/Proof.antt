@@ -1,7 +1,6 @@
 -- `board::replies::reply_of` meets its contract. Assumes nothing.
-use native.Mathlib.Omega.{arith}
 use borrow.Author.Needs.{needs}
-use mathlib.Core.Path.{_≡_, sym, _∙_}
+use mathlib.Core.Path.{sym, _∙_}
 use borrow.Author.Tests.{not-true, not-false}
 use Rattle.board.proofs.Replying.{reply-refused, is-accepted, reply-unsound, reply-sound}
 use Rattle.board.proofs.replies.reply_of.Statement.{statement}

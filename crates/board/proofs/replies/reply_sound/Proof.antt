@@ -1,7 +1,7 @@
 -- `board::replies::reply_sound` meets its contract. Assumes nothing.
 use native.Mathlib.Omega.{arith}
 use borrow.Author.Needs.{needs}
-use mathlib.Core.Path.{_≡_, sym, _∙_}
+use mathlib.Core.Path.{sym, _∙_}
 use Rattle.plan.specs.APlan.{recordsOf}
 use Rattle.board.proofs.Theorems.Soundness.{sound-means}
 use Rattle.board.proofs.Replying.{nothing-open, something-open, clock-small, offer-here, reply-finished, reply-stuck, reply-waiting, reply-offers}

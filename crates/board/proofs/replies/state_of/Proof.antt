@@ -1,6 +1,4 @@
 -- `board::replies::state_of` meets its contract. Assumes nothing.
-use borrow.Author.Needs.{needs}
-use native.Mathlib.Omega.{arith}
 use borrow.Author.Tests.{lt-ltb, le-ltb, not-true, not-false}
 use Rattle.board.specs.Inside2.{stateFrom}
 use Rattle.board.proofs.replies.state_of.Statement.{statement}

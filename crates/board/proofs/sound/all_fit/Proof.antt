@@ -1,9 +1,9 @@
 -- `board::sound::all_fit` meets its contract. Assumes nothing.
 use borrow.Author.Needs.{needs}
 use native.Mathlib.Omega.{arith}
-use mathlib.Core.Path.{_≡_, refl, sym, ap, _∙_}
+use mathlib.Core.Path.{_≡_, refl, sym, _∙_}
 use borrow.Author.Tests.{not-true, not-false}
-use Prim.Native.Nat.{ℕ, _≤_, _-_}
+use Prim.Native.Nat.{_≤_, _-_}
 use Rattle.points.specs.Sets.{from, every}
 use Rattle.plan.specs.Limits.{mostPoints}
 use Rattle.board.specs.Boards.{fits}

@@ -1,14 +1,14 @@
 -- `board::sound::all_in_bounds` meets its contract. Assumes nothing.
 use borrow.Author.Needs.{needs}
 use native.Mathlib.Omega.{arith}
-use mathlib.Core.Path.{_≡_, refl, sym, ap, _∙_}
+use mathlib.Core.Path.{_≡_, refl, sym, _∙_}
 use borrow.Author.Tests.{not-true, not-false}
-use Prim.Native.Nat.{ℕ, _≤_, _<_, _-_, min}
+use Prim.Native.Nat.{_≤_, _-_, min}
 use lib.ListN.{length, drop, length-map}
 use Rattle.plan.specs.Limits.{mostRecords}
 use Rattle.plan.specs.APlan.{recordsOf}
 use Rattle.board.specs.Boards.{inBounds, each}
-use Rattle.board.proofs.Records.{used-records, record-at}
+use Rattle.board.proofs.Records.{next-record, last-record}
 use Rattle.board.proofs.Walks.{records-fails, records-turn, records-end}
 use Rattle.board.proofs.sound.all_in_bounds.Statement.{statement}
 use Rattle.board.proofs.sound.all_in_bounds.Tie as tie
@@ -42,11 +42,9 @@ returns c =
     let a = c .before .before .before .before .before .before .args in
     let i = c .before .before .before .before .loop .inv in
     let k = c .before .before .before .before .loop .i in
-    let h : k < min (a .t1 .count) mostRecords = omega (arith, c .before .before .before .loop-test .taken, i .1) in
-    let n = used-records (a .t1) (i .2) in
-    let r = record-at (a .t1) (i .2) k h in
+    let w = next-record (a .t1) (i .2) _ (i .1) k (c .before .before .before .loop-test .taken) in
     let f = sym (c .before .in-bounds .ensures) ∙ not-true _ (c .if1 .taken) in
-    records-fails (inBounds (a .board)) (recordsOf (a .t1)) k (omega (arith, n)) (rw r f) ∙ i .3
+    records-fails (inBounds (a .board)) (recordsOf (a .t1)) k (w .0) (rw (w .1) f) ∙ i .3
 
 add-i : tie.Need-add-i Inv-loop μ-loop
 add-i c = search needs
@@ -59,18 +57,15 @@ loop-again c =
     let a = c .before .before .before .before .before .before .args in
     let i = c .before .before .before .before .loop .inv in
     let k = c .before .before .before .before .loop .i in
-    let h : k < min (a .t1 .count) mostRecords = omega (arith, c .before .before .before .loop-test .taken, i .1) in
-    let n = used-records (a .t1) (i .2) in
-    let r = record-at (a .t1) (i .2) k h in
+    let w = next-record (a .t1) (i .2) _ (i .1) k (c .before .before .before .loop-test .taken) in
     let f = sym (c .before .in-bounds .ensures) ∙ not-false _ (c .if1 .left) in
-    (omega arith, i .1, i .2, sym (records-turn (inBounds (a .board)) (recordsOf (a .t1)) k (omega (arith, n)) (rw r f)) ∙ i .3)
+    (omega arith, i .1, i .2, sym (records-turn (inBounds (a .board)) (recordsOf (a .t1)) k (w .0) (rw (w .1) f)) ∙ i .3)
 
 returns-2 : tie.Need-returns-2 Inv-loop μ-loop
 returns-2 c =
     let a = c .before .before .before .args in
     let i = c .before .loop .inv in
-    let n = used-records (a .t1) (i .2) in
-    records-end (inBounds (a .board)) (recordsOf (a .t1)) (c .before .loop .i) (omega (arith, n)) ∙ i .3
+    records-end (inBounds (a .board)) (recordsOf (a .t1)) (c .before .loop .i) (last-record (a .t1) (i .2) _ (i .1) _ (c .loop-test .left)) ∙ i .3
 
 pub all-in-bounds-spec : {M : Type 1} → statement M
 all-in-bounds-spec =

@@ -1,5 +1,4 @@
 -- `board::sound::all_points` meets its contract. Assumes nothing.
-use native.Mathlib.Omega.{arith}
 use borrow.Author.Needs.{needs}
 use Rattle.board.proofs.sound.all_points.Statement.{statement}
 use Rattle.board.proofs.sound.all_points.Tie as tie

@@ -1,9 +1,7 @@
 -- `board::sound::first_points` meets its contract. Assumes nothing.
-use native.Mathlib.Omega.{arith}
 use borrow.Author.Needs.{needs}
 use Rattle.points.specs.Sets.{belowOf}
 use native.Mathlib.Nat.{min-eq-right}
-use mathlib.Core.Path.{_≡_, refl, sym, ap, _∙_}
 use Rattle.board.proofs.sound.first_points.Statement.{statement}
 use Rattle.board.proofs.sound.first_points.Tie as tie
 

@@ -1,5 +1,4 @@
 -- `board::sound::fits_at` meets its contract. Assumes nothing.
-use native.Mathlib.Omega.{arith}
 use borrow.Author.Needs.{needs}
 use Rattle.board.proofs.sound.fits_at.Statement.{statement}
 use Rattle.board.proofs.sound.fits_at.Tie as tie

@@ -1,7 +1,5 @@
 -- `board::sound::in_bounds` meets its contract. Assumes nothing.
-use native.Mathlib.Omega.{arith}
 use borrow.Author.Needs.{needs}
-use mathlib.Core.Path.{_≡_, refl, sym, ap, _∙_}
 use borrow.Author.Tests.{eq-eqb, ne-eqb}
 use mir.Syntax.{w32}
 use mir.ValLaws.{toZ-ofZ}

@@ -1,7 +1,6 @@
 -- `board::sound::is_sound` meets its contract. Assumes nothing.
 use native.Mathlib.Omega.{arith}
 use borrow.Author.Needs.{needs}
-use mathlib.Core.Path.{_≡_, refl, sym, ap, _∙_}
 use Rattle.points.specs.Laws.{count-le}
 use Rattle.board.specs.Boards.{sound}
 use Rattle.board.proofs.sound.is_sound.Statement.{statement}

@@ -1,12 +1,12 @@
 -- `board::sound::last_done` meets its contract. Assumes nothing.
 use borrow.Author.Needs.{needs}
 use native.Mathlib.Omega.{arith}
-use mathlib.Core.Path.{_≡_, refl, sym, ap, _∙_}
+use mathlib.Core.Path.{_≡_, sym, _∙_}
 use mathlib.Core.Logic.{⊎-elim}
-use Prim.Native.Nat.{ℕ, _<_, _^_, max}
+use Prim.Native.Nat.{_<_, _^_, max}
 use Rattle.points.specs.Sets.{countOf, membersOf}
 use Rattle.points.specs.Laws.{turn}
-use Rattle.board.specs.Boards.{minute, largest}
+use Rattle.board.specs.Boards.{largest}
 use Rattle.board.proofs.Walks.{largest-turn, largest-end}
 use Rattle.board.proofs.sound.last_done.Statement.{statement}
 use Rattle.board.proofs.sound.last_done.Tie as tie

@@ -1,8 +1,8 @@
 -- `board::windows::least_high` meets its contract. Assumes nothing.
 use borrow.Author.Needs.{needs}
 use native.Mathlib.Omega.{arith}
-use mathlib.Core.Path.{_≡_, refl, sym, ap, _∙_}
-use Prim.Native.Nat.{ℕ, _<_, _≤_, _^_, min}
+use mathlib.Core.Path.{_≡_, sym, _∙_}
+use Prim.Native.Nat.{_<_, _≤_, _^_, min}
 use Rattle.points.specs.Sets.{countOf, membersOf}
 use Rattle.points.specs.Laws.{turn, first-member}
 use Rattle.board.specs.Windows.{never}

@@ -1,6 +1,4 @@
 -- `board::windows::minus` meets its contract. Assumes nothing.
-use borrow.Author.Needs.{needs}
-use native.Mathlib.Omega.{arith}
 use Rattle.board.proofs.Minus.{minus}
 use Rattle.board.proofs.windows.minus.Statement.{statement}
 use Rattle.board.proofs.windows.minus.Tie as tie

@@ -1,5 +1,4 @@
 -- `board::windows::ordinary` meets its contract. Assumes nothing.
-use native.Mathlib.Omega.{arith}
 use borrow.Author.Needs.{needs}
 use Rattle.board.proofs.windows.ordinary.Statement.{statement}
 use Rattle.board.proofs.windows.ordinary.Tie as tie

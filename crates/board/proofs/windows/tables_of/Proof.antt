@@ -1,8 +1,8 @@
 -- `board::windows::tables_of` meets its contract. Assumes nothing.
 use borrow.Author.Needs.{needs}
 use native.Mathlib.Omega.{arith}
-use mathlib.Core.Path.{_≡_, refl, sym, ap, _∙_}
-use Prim.Native.Nat.{ℕ, _≤_, _<_, _-_, _%_, min}
+use mathlib.Core.Path.{_≡_, refl}
+use Prim.Native.Nat.{_≤_, _<_, _-_, min}
 use lib.ListN.{length, take, length-map, length-set}
 use Rattle.plan.specs.Limits.{mostPoints, mostRecords}
 use Rattle.plan.specs.APlan.{recordsOf}

@@ -1,5 +1,4 @@
 -- `board::windows::wait` meets its contract. Assumes nothing.
-use native.Mathlib.Omega.{arith}
 use borrow.Author.Needs.{needs}
 use Rattle.board.proofs.windows.wait.Statement.{statement}
 use Rattle.board.proofs.windows.wait.Tie as tie

@@ -1,7 +1,6 @@
 -- `board::windows::windows_of` meets its contract. Assumes nothing.
-use native.Mathlib.Omega.{arith}
 use borrow.Author.Needs.{needs}
-use mathlib.Core.Path.{_≡_, _∙_}
+use mathlib.Core.Path.{_∙_}
 use Rattle.plan.specs.APlan.{recordsOf}
 use Rattle.plan.proofs.Accepted.{accepted-plan}
 use Rattle.board.proofs.Opening.{high-here, opens-here}

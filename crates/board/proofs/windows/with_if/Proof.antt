@@ -1,5 +1,4 @@
 -- `board::windows::with_if` meets its contract. Assumes nothing.
-use native.Mathlib.Omega.{arith}
 use borrow.Author.Needs.{needs}
 use Rattle.board.proofs.windows.with_if.Statement.{statement}
 use Rattle.board.proofs.windows.with_if.Tie as tie

@@ -2,15 +2,15 @@
 -- the records keep the rules of a plan.
 use mathlib.Core.Path.{_≡_, refl, sym, _∙_}
 use mathlib.Core.Logic.{_⊎_, inl, inr, by-cases}
-use mathlib.Core.Bool.{Bool, true, false, not, _&&_, _||_, or-true}
+use mathlib.Core.Bool.{Bool, true, false, not, _&&_, or-true}
 use mathlib.Core.List.{List, [], _∷_}
 use Prim.Native.Nat.{ℕ, zero, suc, _+_, _-_, _^_, _≤_, _<_, min}
 use native.Mathlib.Omega.{arith}
 use native.Mathlib.Decide.{decLt}
-use lib.Dec.{eqb, ltb, leb}
+use lib.Dec.{eqb, ltb}
 use lib.ListN.{length, getD}
-use borrow.Author.Tests.{leb-true, le-leb, lt-ltb, eqb-true, eq-eqb, not-true}
-use Rattle.points.specs.Sets.{member, every, from}
+use borrow.Author.Tests.{lt-ltb, eqb-true, eq-eqb, not-true}
+use Rattle.points.specs.Sets.{from}
 use Rattle.points.specs.Laws.{member-past}
 use Rattle.plan.specs.Choice.{if_then_else_}
 use Rattle.plan.specs.Limits.{mostPoints, farthest}
@@ -20,16 +20,18 @@ use Rattle.plan.proofs.Accepted.{Accepted, not-a}
 use Rattle.board.specs.Boards.{isDone, minute, shortest, longest, running}
 use Rattle.board.specs.Windows.{shuts, foremans, isOpen, earliest, greatest, low, never, bound, least, high, leastHigh, H, someOpen, allAbove}
 use Rattle.board.specs.Replies.{stuck, latest}
-use Rattle.board.specs.Events.{eventMinute, eventPoint, eventSet, noPoint, endsRunning, boardAfter}
+use Rattle.board.specs.Events.{eventMinute, eventPoint, eventSet, endsRunning, boardAfter}
 use Rattle.board.specs.declared.Board.{Board}
-use Rattle.board.proofs.Theorems.Each.{clash, both, and-both, unless, as-unless, every-point, point-every, greatest-le}
+use Rattle.board.proofs.Theorems.Each.{clash, both, point-every, greatest-le}
 use Rattle.board.proofs.Theorems.Soundness.{HeldBoard, Sound, SoundLink}
 use Rattle.board.proofs.Theorems.Marks.{names, named, Marks, after-marks}
 use Rattle.board.proofs.Theorems.Taking.{Takes, opened, something-open, fresh-points}
-use Rattle.network.proofs.States.{State, Done, Undone, Change, same, fresh, still}
+use Rattle.network.proofs.States.{State, Change, same, fresh, still}
 use Rattle.network.proofs.States as states
 use Rattle.network.proofs.Plans.{Running, Open, Shut, by-record, by-wait, FromLow, ToH, May, offered, ends, Event, InTime}
-use Rattle.promise.specs.Nets.{Has, OrdinaryIn, LinkIn, WaitIn, netOf}
+use Rattle.promise.specs.Nets.{Has, OrdinaryIn, LinkIn, netOf}
+use Rattle.promise.specs.Plays.{leastOf}
+use Rattle.promise.proofs.Gathering.{least-of-le, least-of-at}
 use Rattle.promise.proofs.Nets.{keeps, ordinary-in, wait-in, link-of, joins, shut-from, open-from, rules-of}
 
 -- what a board says: the points done, their minutes and the clock
@@ -63,36 +65,20 @@ least-at f (r ∷ rs) = go (decLt (f r) (least f rs)) (least-at f rs)
     go (no l) (inr w) = inr (suc (w .0), omega (arith, w .1), omega (arith, w .2))
 
 module _ (rs : List Record) (b : Board) where
-  -- no open point's High is below H
-  high-above : (m : ℕ) (qs : List ℕ) → m ≤ leastHigh rs b qs → every (λ (q : ℕ). not (isOpen rs b q) || leb m (high rs b q)) qs ≡ true
-  unfolding leastHigh every
-  high-above m [] h = refl
-  high-above m (q ∷ qs) h = go (isOpen rs b q) h (high-above m qs)
-    where
-      go : (o : Bool) → m ≤ (if o then min (high rs b q) (leastHigh rs b qs) else leastHigh rs b qs)
-          → (m ≤ leastHigh rs b qs → every (λ (q : ℕ). not (isOpen rs b q) || leb m (high rs b q)) qs ≡ true)
-          → ((not o || leb m (high rs b q)) && every (λ (q : ℕ). not (isOpen rs b q) || leb m (high rs b q)) qs) ≡ true
-      go true h f = and-both _ _ (le-leb m (high rs b q) (omega arith)) (f (omega arith))
-      go false h f = f h
+  -- H is the least High of the open points
+  least-high : (qs : List ℕ) → leastHigh rs b qs ≡ leastOf (isOpen rs b) (high rs b) qs
+  unfolding leastHigh leastOf
+  least-high [] = refl
+  least-high (q ∷ qs) = rw (least-high qs)
 
+  -- No open point's High is below H.
   pub H-le : (q : ℕ) → q < mostPoints → isOpen rs b q ≡ true → H rs b ≤ high rs b q
   H-le q l o =
-      leb-true _ _ (unless (isOpen rs b q) _ (every-point (λ (q : ℕ). not (isOpen rs b q) || leb (H rs b) (high rs b q)) (high-above (H rs b) (from 0 mostPoints) (omega arith)) q l) o)
+      rw (least-high (from 0 mostPoints)) (least-of-le (isOpen rs b) (high rs b) mostPoints 0 q (omega arith) (omega arith) o)
 
-  -- H is never, or the High of an open point
-  pub H-at : (qs : List ℕ) → (leastHigh rs b qs ≡ never) ⊎ ((q : ℕ) × (isOpen rs b q ≡ true) × (high rs b q ≡ leastHigh rs b qs))
-  unfolding leastHigh
-  H-at [] = inl refl
-  H-at (q ∷ qs) = go (isOpen rs b q) refl (decLt (high rs b q) (leastHigh rs b qs)) (H-at qs)
-    where
-      go : (o : Bool) → isOpen rs b q ≡ o → Dec (high rs b q < leastHigh rs b qs)
-          → (leastHigh rs b qs ≡ never) ⊎ ((q : ℕ) × (isOpen rs b q ≡ true) × (high rs b q ≡ leastHigh rs b qs))
-          → ((if o then min (high rs b q) (leastHigh rs b qs) else leastHigh rs b qs) ≡ never)
-          ⊎ ((p : ℕ) × (isOpen rs b p ≡ true) × (high rs b p ≡ (if o then min (high rs b q) (leastHigh rs b qs) else leastHigh rs b qs)))
-      go true e (yes l) w = inr (q, e, omega arith)
-      go true e (no l) (inl z) = inl (omega arith)
-      go true e (no l) (inr w) = inr (w .0, w .1, omega (arith, w .2))
-      go false e d w = w
+  -- There is no H, or it is the High of an open point.
+  pub H-at : (H rs b ≡ never) ⊎ ((q : ℕ) × (isOpen rs b q ≡ true) × (high rs b q ≡ H rs b))
+  H-at = rw (least-high (from 0 mostPoints)) (least-of-at (isOpen rs b) (high rs b) (from 0 mostPoints))
 
   -- Where the board is not stuck and something is open, H is not below zero.
   pub H-up : stuck rs b ≡ false → someOpen rs b ≡ true → farthest ≤ H rs b

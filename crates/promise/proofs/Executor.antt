@@ -1,9 +1,9 @@
 -- The executor's theorem: what is promised of every board that accepted events reach from the fresh one, for a plan that is
 -- accepted and passes. Assumes nothing of boards or events.
-use mathlib.Core.Path.{_≡_, refl, sym, _∙_, ap}
+use mathlib.Core.Path.{_≡_, refl, sym, _∙_}
 use mathlib.Core.Bool.{Bool, true, false, not}
 use mathlib.Core.List.{List, [], _∷_}
-use Prim.Native.Nat.{ℕ, zero, suc, _*_, _^_, _≤_, _<_}
+use Prim.Native.Nat.{ℕ, zero, suc, _^_, _≤_, _<_}
 use native.Mathlib.Omega.{arith}
 use lib.Dec.{eqb}
 use lib.ListN.{getD}
@@ -11,25 +11,22 @@ use borrow.Author.Tests.{eqb-true}
 use Rattle.points.specs.Sets.{countOf}
 use Rattle.points.specs.Laws.{member-empty}
 use Rattle.plan.specs.Choice.{if_then_else_}
-use Rattle.plan.specs.Limits.{mostPoints, farthest}
-use Rattle.plan.specs.APlan.{points, recordsOf}
+use Rattle.plan.specs.APlan.{recordsOf}
 use Rattle.plan.specs.Held.{All, IsByte}
 use Rattle.plan.specs.ReplyNumbers.{checkOf}
 use Rattle.plan.specs.declared.Record.{Record}
 use Rattle.plan.specs.declared.Plan.{Plan}
 use Rattle.plan.proofs.Accepted.{Accepted, accepted-plan}
-use Rattle.board.specs.Boards.{fresh, sound, minute}
+use Rattle.board.specs.Boards.{fresh, sound}
 use Rattle.board.specs.Windows.{someOpen}
 use Rattle.board.specs.Replies.{finished, stuck, outcomeOf, isOffer, offer, bare, replyOf}
 use Rattle.board.specs.Events.{eventSet, eventNumber, boardAfter, taken, takeOf}
 use Rattle.board.specs.Verdicts.{firstBroken, verdictOf}
 use Rattle.board.specs.declared.Board.{Board}
-use Rattle.board.specs.declared.Taken.{Taken}
 use Rattle.board.specs.declared.Outcome.{Outcome}
 use Rattle.board.specs.declared.Outcome.the-variants.{Refused, Finished, Stuck, Waiting, Offers}
-use Rattle.board.specs.declared.Verdict.the-variants.{Kept}
 use Rattle.board.proofs.Theorems.Each.{clash, differ}
-use Rattle.board.proofs.Theorems.Soundness.{HeldBoard, Sound, sound-means, fresh-sound}
+use Rattle.board.proofs.Theorems.Soundness.{HeldBoard, sound-means, fresh-sound}
 use Rattle.board.proofs.Theorems.Taking.{takes, event-sound, event-marks, event-more}
 use Rattle.network.proofs.Plans.{Safe}
 use Rattle.network.proofs.Safety.{safe-fresh, safe-event}

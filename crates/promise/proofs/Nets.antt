@@ -10,13 +10,13 @@ use lib.Dec.{eqb, ltb}
 use lib.IntN.{ℤ, pos, negsuc}
 use lib.ListN.{length, getD}
 use borrow.Author.Tests.{ltb-true, lt-ltb, eqb-true, eq-eqb, not-true}
-use Rattle.plan.specs.APlan.{Kind, point, link, ordinary, wait, is, some, points, watched, endsAt, firstThat, linkTo, blank, gapOf}
+use Rattle.plan.specs.APlan.{Kind, point, link, ordinary, wait, is, some, points, watched, endsAt, linkTo, blank, gapOf}
 use Rattle.plan.specs.declared.Record.{Record}
 use Rattle.plan.proofs.Accepted as plan
 use Rattle.plan.proofs.Accepted.{Accepted, getD-some, first-found, not-a}
 use Rattle.board.specs.Boards.{shortest, longest}
 use Rattle.board.proofs.Theorems.Each.{clash, both, either}
-use Rattle.network.proofs.States.{State, Done, Undone, ask}
+use Rattle.network.proofs.States.{State, Undone, ask}
 use Rattle.network.proofs.Plans.{Watched, Foremans, Open, Shut, by-record, by-wait, Rules}
 use Rattle.promise.specs.Nets.{Has, OrdinaryIn, LinkIn, WaitIn, netOf}
 

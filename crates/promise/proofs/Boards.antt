@@ -40,7 +40,8 @@ saysOf b = record { done = isDone b; minute = minute b; clock = b .clock }
 
 -- ---- the greatest and the least of what records give
 
-pub greatest-ge : (f : Record → ℕ) (rs : List Record) (i : ℕ) → i < length rs → f (getD rs i blank) ≤ greatest f rs
+-- no record gives more than the greatest, nor less than the least
+greatest-ge : (f : Record → ℕ) (rs : List Record) (i : ℕ) → i < length rs → f (getD rs i blank) ≤ greatest f rs
 unfolding greatest
 greatest-ge f [] i h = absurd (omega arith)
 greatest-ge f (r ∷ rs) zero h = omega arith
@@ -52,7 +53,7 @@ least-le f [] i h = absurd (omega arith)
 least-le f (r ∷ rs) zero h = omega arith
 least-le f (r ∷ rs) (suc i) h = omega (arith, least-le f rs i (omega arith))
 
--- it is never, or one of the records gives it
+-- The least is never, or one of the records gives it.
 pub least-at : (f : Record → ℕ) (rs : List Record) → (least f rs ≡ never) ⊎ ((i : ℕ) × (i < length rs) × (f (getD rs i blank) ≡ least f rs))
 unfolding least
 least-at f [] = inl refl
@@ -108,7 +109,7 @@ module _ (rs : List Record) (ok : Accepted rs) (b : Board) where
       at : {A x y C : ℕ} (l : LinkIn rs A x y C) → SoundLink b (l .what)
       at l = rw (l .has .here) at (w .links (l .has .place) (l .has .listed) (rw (l .has .here) (l .has .kind)))
 
-  -- a link that the board takes for running is running, and back
+  -- A link that the board takes for running is running.
   pub running-of : (C : ℕ) → watched rs C ≡ true → running b (linkTo rs C) ≡ true
       → Running (netOf rs) (saysOf b) (linkTo rs C .a) (shortest (linkTo rs C)) (longest (linkTo rs C)) C
   running-of C c e =
@@ -116,13 +117,14 @@ module _ (rs : List Record) (ok : Accepted rs) (b : Board) where
       let g = both (isDone b (l .a)) (not (isDone b (l .b))) (both (is link l) _ e .1) in
       record { link = link-of rs ok C c; started = g .0; undone = rw (ok .ends C c .1) at (not-true (isDone b (l .b)) (g .1)) }
 
-  -- a point that ends a running link is in the plan, and not done
+  -- A point that ends a running link is in the plan, and not done.
   pub ends-in-plan : (C : ℕ) → endsRunning rs b C ≡ true → (C < points rs) × (isDone b C ≡ false)
   ends-in-plan C h =
       let k = both (watched rs C) _ h in
       let r = running-of C (k .0) (k .1) in
       (rules-of rs ok .link-points (r .link) .1, r .undone)
 
+  -- A link that is running is taken for running by the board.
   pub is-running : {A x y C : ℕ} → Running (netOf rs) (saysOf b) A x y C → running b (linkTo rs C) ≡ true
   is-running {C = C} k =
       let j = joins rs ok (k .link) in
@@ -131,6 +133,7 @@ module _ (rs : List Record) (ok : Accepted rs) (b : Board) where
 
   -- ---- open
 
+  -- A point that the board takes for open is open, and back.
   pub open-of : (q : ℕ) → isOpen rs b q ≡ true → Open (netOf rs) (saysOf b) q
   open-of q e =
       let o = opened rs b q e in
@@ -147,6 +150,7 @@ module _ (rs : List Record) (ok : Accepted rs) (b : Board) where
   -- ---- Low
 
   module _ (q t : ℕ) where
+    -- A minute that is not before Low meets all that Low is made of, and back.
     pub low-of : low rs b q ≤ t → FromLow (netOf rs) (saysOf b) t q
     low-of h =
         record {

@@ -50,7 +50,7 @@ reads : (e : Event) → e .minute < 2 ^ 32 → e .set < 2 ^ 32 → Reads (eventB
 reads e m s =
     record { minute = word-back (e .minute) m []; point = refl; set = word-back (e .set) s []; long = refl; zeros = (refl, refl, refl, refl) }
 
-pub are-bytes : (e : Event) → e .point < 256 → All IsByte (eventBytes e)
+are-bytes : (e : Event) → e .point < 256 → All IsByte (eventBytes e)
 are-bytes e h = omega arith
 
 -- the event s gets none of the numbers 21 to 30
@@ -161,6 +161,7 @@ module _ (p : Plan) (ok : checkOf p .number ≡ 0) (b : Board) (held : HeldBoard
         past true o = le-ltb (latest rs b) (e .minute) (m .in-latest (is-offer o))
         past false o = refl
 
+  -- Its sixteen bytes stand for it.
   pub happens-reads : Reads (eventBytes e) e
   happens-reads = reads e fits (m .small)
 

@@ -36,7 +36,7 @@ use Rattle.promise.proofs.Boards.{ends-in-plan}
 use Rattle.promise.proofs.Gathering.{least-of-le, least-of-at, set-of-in, set-of-out, set-of-fits}
 use Rattle.promise.proofs.Executor.{outcome-is}
 
--- what comes first is at the first end or before, and has all that ends then
+-- What comes first is at the first end or before, and has all that ends then.
 module _ (rs : List Record) (b : Board) (at : ℕ → ℕ) where
   pub comes-first : (t q : ℕ)
       → (comesFirst rs b at t q .minute ≤ firstEnd rs b at) × (comesFirst rs b at t q .set ≡ endingAt rs b at (comesFirst rs b at t q .minute))
@@ -73,7 +73,7 @@ module _ (p : Plan) (ok : checkOf p .number ≡ 0) (b : Board) (held : HeldBoard
       omega (arith, l .long, w .past _ (l .from))
 
   module _ (h : Haulage rs b) where
-    -- no running link ends before the first
+    -- No running link ends before the first.
     pub first-le : (C : ℕ) → endsRunning rs b C ≡ true → firstEnd rs b (h .at) ≤ h .at C
     first-le C r =
         least-of-le (endsRunning rs b) (h .at) mostPoints 0 C (omega arith) (omega (arith, ends-in-plan rs known b C r .0, known .few)) r

@@ -18,7 +18,7 @@ use Rattle.board.specs.Replies.{finished, stuck, outcomeOf}
 use Rattle.board.specs.Events.{takeOf}
 use Rattle.board.specs.declared.Board.{Board}
 use Rattle.board.specs.declared.Outcome.the-variants.{Finished, Stuck, Waiting, Offers}
-use Rattle.board.proofs.Theorems.Soundness.{sound-means}
+use Rattle.board.proofs.Theorems.Soundness.{HeldBoard, sound-means}
 use Rattle.board.proofs.Theorems.Each.{differ}
 use Rattle.promise.specs.Nets.{PassesPlan}
 use Rattle.promise.specs.Runs.{Run, Promised}
@@ -53,20 +53,24 @@ module _ (p : Plan) (ok : checkOf p .number ≡ 0) (passes : PassesPlan p) where
     good : sound rs b ≡ true
     good = stands p ok passes r .good
 
+    held : HeldBoard b
+    held = stands p ok passes r .held
+
+    -- The board is not stuck unless it is finished.
     pub free : finished rs b ≡ false → stuck rs b ≡ false
-    free = not-stuck rs known passes b (stands p ok passes r .held) (sound-means rs b good) (stands p ok passes r .safe)
+    free = not-stuck rs known passes b held (sound-means rs b good) (stands p ok passes r .safe)
 
     -- Whatever can happen next is accepted.
     pub happening-accepted : {e : Event} → CanHappen p b e → takeOf p b (eventBytes e) .number ≡ 0
     happening-accepted {e} c =
-        rw (take-is p ok b (eventBytes e), good, happens p ok b (stands p ok passes r .held) good free e c)
+        rw (take-is p ok b (eventBytes e), good, happens p ok b held good free e c)
 
     -- What haulage and the foreman make can happen.
     pub made-can-happen : {x : Players p} {e : Event} → Make p x k b e → CanHappen p b e
-    made-can-happen {x} (choice g o) = by-choice p ok b (stands p ok passes r .held) good (x .haulage k b g) (x .foreman k b o)
+    made-can-happen {x} (choice g o) = by-choice p ok b held good (x .haulage k b g) (x .foreman k b o)
     made-can-happen {x} (wait g o) =
         let t = waiting rs b (sym (outcome-is p ok b g) ∙ o) in
-        by-wait p ok b (stands p ok passes r .held) good (x .haulage k b g) (t .1) (t .0)
+        by-wait p ok b held good (x .haulage k b g) (t .1) (t .0)
 
     -- Where not all is done they make something.
     pub make-on : (x : Players p) → (finished rs b ≡ true) ⊎ ((e : Event) × Make p x k b e)
@@ -83,7 +87,7 @@ module _ (p : Plan) (ok : checkOf p .number ≡ 0) (passes : PassesPlan p) where
   happened-run plays.start = runs.start
   happened-run (plays.next {b} e h c) =
       let r = happened-run h in
-      runs.next (eventBytes e) r (happens-bytes p ok b (stands p ok passes r .held) (good r) (free r) e c) (happening-accepted r c)
+      runs.next (eventBytes e) r (happens-bytes p ok b (held r) (good r) (free r) e c) (happening-accepted r c)
 
   -- Whatever happens, what is promised of runs holds at each board.
   pub happened-promised : {b : Board} {k : ℕ} → Happened p b k → Promised p b k

@@ -58,11 +58,12 @@ module _ (p : Plan) (ok : checkOf p .number ≡ 0) where
               (omega arith, omega (arith, i .0), omega (arith, i .1, t));
         }
 
+    -- and then ends each link as they say
     pub is-fixed : Fixed p ω fixed
     unfolding fixed
     is-fixed = record { at = λ k b g C l. omega arith }
 
-  -- the longest durations are in bounds
+  -- The longest durations are in bounds.
   pub longest-in-bounds : InBounds (netOf rs) (λ C. longest (linkTo rs C))
   longest-in-bounds = record { within = λ l. let j = joins rs known l in omega (arith, j .long, rules-of rs known .link-bounds l) }
 

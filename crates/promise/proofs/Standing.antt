@@ -39,7 +39,7 @@ use Rattle.promise.specs.Nets.{Has, OrdinaryIn, netOf}
 use Rattle.promise.proofs.Nets.{keeps, has-some, ordinary-in, wait-in, link-of, rules-of}
 use Rattle.promise.proofs.Boards.{saysOf, least-at, H-at, in-time-of, open-of, is-open, low-from}
 
--- one of two answers for each number
+-- Each number passes a test or does not.
 pub told : (f : ℕ → Bool) (q : ℕ) → (f q ≡ true) ⊎ (f q ≡ false)
 told f q = go (f q) refl
   where
@@ -74,7 +74,7 @@ module _ (rs : List Record) (b : Board) (held : HeldBoard b) (w : Sound rs b) wh
         | inr x ↦ x
       ]
     where
-      same : ((q : ℕ) → q < points rs → isDone b q ≡ true) → (q : ℕ) → q < 32 → (d : Bool) → isDone b q ≡ d → d ≡ member (belowOf (points rs)) q
+      same : ((q : ℕ) → q < points rs → isDone b q ≡ true) → (q : ℕ) → q < mostPoints → (d : Bool) → isDone b q ≡ d → d ≡ member (belowOf (points rs)) q
       same all q l true h = sym (member-below (points rs) q ∙ lt-ltb q _ (omega (arith, w .inside q l h)))
       same all q l false h = go (member (belowOf (points rs)) q) refl
         where

@@ -1,5 +1,6 @@
--- The theorems of the promise, for later crates to cite: `executor` of `Executor`, `happening-accepted`, `happened-promised`
--- and `finishes` of `Play`, `at-durations` of `Lasting`, and `some-players` of `Players`. The others lead up to these.
+-- The theorems of the promise, for later crates to cite: `executor` of `Executor`; `happening-accepted`, `happened-promised`
+-- and `finishes` of `Play`; `at-durations` of `Lasting`; `some-players` of `Players`; and the haul of document 01 as an
+-- instance, in `Haul`. The others lead up to these.
 pub mod Nets
 pub mod Gathering
 pub mod Boards
@@ -10,3 +11,4 @@ pub mod Making
 pub mod Players
 pub mod Play
 pub mod Lasting
+pub mod Haul

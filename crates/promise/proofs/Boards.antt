@@ -2,15 +2,15 @@
 -- the records keep the rules of a plan.
 use mathlib.Core.Path.{_≡_, refl, sym, _∙_}
 use mathlib.Core.Logic.{_⊎_, inl, inr, by-cases}
-use mathlib.Core.Bool.{Bool, true, false, not, _&&_, _||_, or-true}
+use mathlib.Core.Bool.{Bool, true, false, not, _&&_, or-true}
 use mathlib.Core.List.{List, [], _∷_}
 use Prim.Native.Nat.{ℕ, zero, suc, _+_, _-_, _^_, _≤_, _<_, min}
 use native.Mathlib.Omega.{arith}
 use native.Mathlib.Decide.{decLt}
-use lib.Dec.{eqb, ltb, leb}
+use lib.Dec.{eqb, ltb}
 use lib.ListN.{length, getD}
-use borrow.Author.Tests.{leb-true, le-leb, lt-ltb, eqb-true, eq-eqb, not-true}
-use Rattle.points.specs.Sets.{member, every, from}
+use borrow.Author.Tests.{lt-ltb, eqb-true, eq-eqb, not-true}
+use Rattle.points.specs.Sets.{from}
 use Rattle.points.specs.Laws.{member-past}
 use Rattle.plan.specs.Choice.{if_then_else_}
 use Rattle.plan.specs.Limits.{mostPoints, farthest}
@@ -20,16 +20,18 @@ use Rattle.plan.proofs.Accepted.{Accepted, not-a}
 use Rattle.board.specs.Boards.{isDone, minute, shortest, longest, running}
 use Rattle.board.specs.Windows.{shuts, foremans, isOpen, earliest, greatest, low, never, bound, least, high, leastHigh, H, someOpen, allAbove}
 use Rattle.board.specs.Replies.{stuck, latest}
-use Rattle.board.specs.Events.{eventMinute, eventPoint, eventSet, noPoint, endsRunning, boardAfter}
+use Rattle.board.specs.Events.{eventMinute, eventPoint, eventSet, endsRunning, boardAfter}
 use Rattle.board.specs.declared.Board.{Board}
-use Rattle.board.proofs.Theorems.Each.{clash, both, and-both, unless, as-unless, every-point, point-every, greatest-le}
+use Rattle.board.proofs.Theorems.Each.{clash, both, point-every, greatest-le}
 use Rattle.board.proofs.Theorems.Soundness.{HeldBoard, Sound, SoundLink}
 use Rattle.board.proofs.Theorems.Marks.{names, named, Marks, after-marks}
 use Rattle.board.proofs.Theorems.Taking.{Takes, opened, something-open, fresh-points}
-use Rattle.network.proofs.States.{State, Done, Undone, Change, same, fresh, still}
+use Rattle.network.proofs.States.{State, Change, same, fresh, still}
 use Rattle.network.proofs.States as states
 use Rattle.network.proofs.Plans.{Running, Open, Shut, by-record, by-wait, FromLow, ToH, May, offered, ends, Event, InTime}
-use Rattle.promise.specs.Nets.{Has, OrdinaryIn, LinkIn, WaitIn, netOf}
+use Rattle.promise.specs.Nets.{Has, OrdinaryIn, LinkIn, netOf}
+use Rattle.promise.specs.Plays.{leastOf}
+use Rattle.promise.proofs.Gathering.{least-of-le, least-of-at}
 use Rattle.promise.proofs.Nets.{keeps, ordinary-in, wait-in, link-of, joins, shut-from, open-from, rules-of}
 
 -- what a board says: the points done, their minutes and the clock
@@ -38,7 +40,8 @@ saysOf b = record { done = isDone b; minute = minute b; clock = b .clock }
 
 -- ---- the greatest and the least of what records give
 
-pub greatest-ge : (f : Record → ℕ) (rs : List Record) (i : ℕ) → i < length rs → f (getD rs i blank) ≤ greatest f rs
+-- no record gives more than the greatest, nor less than the least
+greatest-ge : (f : Record → ℕ) (rs : List Record) (i : ℕ) → i < length rs → f (getD rs i blank) ≤ greatest f rs
 unfolding greatest
 greatest-ge f [] i h = absurd (omega arith)
 greatest-ge f (r ∷ rs) zero h = omega arith
@@ -50,7 +53,7 @@ least-le f [] i h = absurd (omega arith)
 least-le f (r ∷ rs) zero h = omega arith
 least-le f (r ∷ rs) (suc i) h = omega (arith, least-le f rs i (omega arith))
 
--- it is never, or one of the records gives it
+-- The least is never, or one of the records gives it.
 pub least-at : (f : Record → ℕ) (rs : List Record) → (least f rs ≡ never) ⊎ ((i : ℕ) × (i < length rs) × (f (getD rs i blank) ≡ least f rs))
 unfolding least
 least-at f [] = inl refl
@@ -63,36 +66,20 @@ least-at f (r ∷ rs) = go (decLt (f r) (least f rs)) (least-at f rs)
     go (no l) (inr w) = inr (suc (w .0), omega (arith, w .1), omega (arith, w .2))
 
 module _ (rs : List Record) (b : Board) where
-  -- no open point's High is below H
-  high-above : (m : ℕ) (qs : List ℕ) → m ≤ leastHigh rs b qs → every (λ (q : ℕ). not (isOpen rs b q) || leb m (high rs b q)) qs ≡ true
-  unfolding leastHigh every
-  high-above m [] h = refl
-  high-above m (q ∷ qs) h = go (isOpen rs b q) h (high-above m qs)
-    where
-      go : (o : Bool) → m ≤ (if o then min (high rs b q) (leastHigh rs b qs) else leastHigh rs b qs)
-          → (m ≤ leastHigh rs b qs → every (λ (q : ℕ). not (isOpen rs b q) || leb m (high rs b q)) qs ≡ true)
-          → ((not o || leb m (high rs b q)) && every (λ (q : ℕ). not (isOpen rs b q) || leb m (high rs b q)) qs) ≡ true
-      go true h f = and-both _ _ (le-leb m (high rs b q) (omega arith)) (f (omega arith))
-      go false h f = f h
+  -- H is the least High of the open points
+  least-high : (qs : List ℕ) → leastHigh rs b qs ≡ leastOf (isOpen rs b) (high rs b) qs
+  unfolding leastHigh leastOf
+  least-high [] = refl
+  least-high (q ∷ qs) = rw (least-high qs)
 
+  -- No open point's High is below H.
   pub H-le : (q : ℕ) → q < mostPoints → isOpen rs b q ≡ true → H rs b ≤ high rs b q
   H-le q l o =
-      leb-true _ _ (unless (isOpen rs b q) _ (every-point (λ (q : ℕ). not (isOpen rs b q) || leb (H rs b) (high rs b q)) (high-above (H rs b) (from 0 mostPoints) (omega arith)) q l) o)
+      rw (least-high (from 0 mostPoints)) (least-of-le (isOpen rs b) (high rs b) mostPoints 0 q (omega arith) (omega arith) o)
 
-  -- H is never, or the High of an open point
-  pub H-at : (qs : List ℕ) → (leastHigh rs b qs ≡ never) ⊎ ((q : ℕ) × (isOpen rs b q ≡ true) × (high rs b q ≡ leastHigh rs b qs))
-  unfolding leastHigh
-  H-at [] = inl refl
-  H-at (q ∷ qs) = go (isOpen rs b q) refl (decLt (high rs b q) (leastHigh rs b qs)) (H-at qs)
-    where
-      go : (o : Bool) → isOpen rs b q ≡ o → Dec (high rs b q < leastHigh rs b qs)
-          → (leastHigh rs b qs ≡ never) ⊎ ((q : ℕ) × (isOpen rs b q ≡ true) × (high rs b q ≡ leastHigh rs b qs))
-          → ((if o then min (high rs b q) (leastHigh rs b qs) else leastHigh rs b qs) ≡ never)
-          ⊎ ((p : ℕ) × (isOpen rs b p ≡ true) × (high rs b p ≡ (if o then min (high rs b q) (leastHigh rs b qs) else leastHigh rs b qs)))
-      go true e (yes l) w = inr (q, e, omega arith)
-      go true e (no l) (inl z) = inl (omega arith)
-      go true e (no l) (inr w) = inr (w .0, w .1, omega (arith, w .2))
-      go false e d w = w
+  -- There is no H, or it is the High of an open point.
+  pub H-at : (H rs b ≡ never) ⊎ ((q : ℕ) × (isOpen rs b q ≡ true) × (high rs b q ≡ H rs b))
+  H-at = rw (least-high (from 0 mostPoints)) (least-of-at (isOpen rs b) (high rs b) (from 0 mostPoints))
 
   -- Where the board is not stuck and something is open, H is not below zero.
   pub H-up : stuck rs b ≡ false → someOpen rs b ≡ true → farthest ≤ H rs b
@@ -122,7 +109,7 @@ module _ (rs : List Record) (ok : Accepted rs) (b : Board) where
       at : {A x y C : ℕ} (l : LinkIn rs A x y C) → SoundLink b (l .what)
       at l = rw (l .has .here) at (w .links (l .has .place) (l .has .listed) (rw (l .has .here) (l .has .kind)))
 
-  -- a link that the board takes for running is running, and back
+  -- A link that the board takes for running is running.
   pub running-of : (C : ℕ) → watched rs C ≡ true → running b (linkTo rs C) ≡ true
       → Running (netOf rs) (saysOf b) (linkTo rs C .a) (shortest (linkTo rs C)) (longest (linkTo rs C)) C
   running-of C c e =
@@ -130,13 +117,14 @@ module _ (rs : List Record) (ok : Accepted rs) (b : Board) where
       let g = both (isDone b (l .a)) (not (isDone b (l .b))) (both (is link l) _ e .1) in
       record { link = link-of rs ok C c; started = g .0; undone = rw (ok .ends C c .1) at (not-true (isDone b (l .b)) (g .1)) }
 
-  -- a point that ends a running link is in the plan, and not done
+  -- A point that ends a running link is in the plan, and not done.
   pub ends-in-plan : (C : ℕ) → endsRunning rs b C ≡ true → (C < points rs) × (isDone b C ≡ false)
   ends-in-plan C h =
       let k = both (watched rs C) _ h in
       let r = running-of C (k .0) (k .1) in
       (rules-of rs ok .link-points (r .link) .1, r .undone)
 
+  -- A link that is running is taken for running by the board.
   pub is-running : {A x y C : ℕ} → Running (netOf rs) (saysOf b) A x y C → running b (linkTo rs C) ≡ true
   is-running {C = C} k =
       let j = joins rs ok (k .link) in
@@ -145,6 +133,7 @@ module _ (rs : List Record) (ok : Accepted rs) (b : Board) where
 
   -- ---- open
 
+  -- A point that the board takes for open is open, and back.
   pub open-of : (q : ℕ) → isOpen rs b q ≡ true → Open (netOf rs) (saysOf b) q
   open-of q e =
       let o = opened rs b q e in
@@ -161,6 +150,7 @@ module _ (rs : List Record) (ok : Accepted rs) (b : Board) where
   -- ---- Low
 
   module _ (q t : ℕ) where
+    -- A minute that is not before Low meets all that Low is made of, and back.
     pub low-of : low rs b q ≤ t → FromLow (netOf rs) (saysOf b) t q
     low-of h =
         record {

@@ -1,9 +1,9 @@
 -- The executor's theorem: what is promised of every board that accepted events reach from the fresh one, for a plan that is
 -- accepted and passes. Assumes nothing of boards or events.
-use mathlib.Core.Path.{_≡_, refl, sym, _∙_, ap}
+use mathlib.Core.Path.{_≡_, refl, sym, _∙_}
 use mathlib.Core.Bool.{Bool, true, false, not}
 use mathlib.Core.List.{List, [], _∷_}
-use Prim.Native.Nat.{ℕ, zero, suc, _*_, _^_, _≤_, _<_}
+use Prim.Native.Nat.{ℕ, zero, suc, _^_, _≤_, _<_}
 use native.Mathlib.Omega.{arith}
 use lib.Dec.{eqb}
 use lib.ListN.{getD}
@@ -11,25 +11,22 @@ use borrow.Author.Tests.{eqb-true}
 use Rattle.points.specs.Sets.{countOf}
 use Rattle.points.specs.Laws.{member-empty}
 use Rattle.plan.specs.Choice.{if_then_else_}
-use Rattle.plan.specs.Limits.{mostPoints, farthest}
-use Rattle.plan.specs.APlan.{points, recordsOf}
+use Rattle.plan.specs.APlan.{recordsOf}
 use Rattle.plan.specs.Held.{All, IsByte}
 use Rattle.plan.specs.ReplyNumbers.{checkOf}
 use Rattle.plan.specs.declared.Record.{Record}
 use Rattle.plan.specs.declared.Plan.{Plan}
 use Rattle.plan.proofs.Accepted.{Accepted, accepted-plan}
-use Rattle.board.specs.Boards.{fresh, sound, minute}
+use Rattle.board.specs.Boards.{fresh, sound}
 use Rattle.board.specs.Windows.{someOpen}
 use Rattle.board.specs.Replies.{finished, stuck, outcomeOf, isOffer, offer, bare, replyOf}
 use Rattle.board.specs.Events.{eventSet, eventNumber, boardAfter, taken, takeOf}
 use Rattle.board.specs.Verdicts.{firstBroken, verdictOf}
 use Rattle.board.specs.declared.Board.{Board}
-use Rattle.board.specs.declared.Taken.{Taken}
 use Rattle.board.specs.declared.Outcome.{Outcome}
 use Rattle.board.specs.declared.Outcome.the-variants.{Refused, Finished, Stuck, Waiting, Offers}
-use Rattle.board.specs.declared.Verdict.the-variants.{Kept}
 use Rattle.board.proofs.Theorems.Each.{clash, differ}
-use Rattle.board.proofs.Theorems.Soundness.{HeldBoard, Sound, sound-means, fresh-sound}
+use Rattle.board.proofs.Theorems.Soundness.{HeldBoard, sound-means, fresh-sound}
 use Rattle.board.proofs.Theorems.Taking.{takes, event-sound, event-marks, event-more}
 use Rattle.network.proofs.Plans.{Safe}
 use Rattle.network.proofs.Safety.{safe-fresh, safe-event}
@@ -46,7 +43,7 @@ byte-at [] h i = omega arith
 byte-at (x ∷ s) h zero = h .0
 byte-at (x ∷ s) h (suc i) = byte-at s (h .1) i
 
--- the set of an event is one of 32 bits
+-- The set of an event is one of 32 bits.
 pub set-fits : (s : List ℕ) → All IsByte s → eventSet s < 2 ^ 32
 set-fits s h = omega (arith, byte-at s h 8, byte-at s h 9, byte-at s h 10, byte-at s h 11)
 
@@ -94,7 +91,7 @@ module _ (p : Plan) (ok : checkOf p .number ≡ 0) where
 
   -- ---- an event that is taken
 
-  -- taking, for a plan that is accepted
+  -- What taking an event answers, for a plan that is accepted.
   pub take-is : (b : Board) (s : List ℕ) → takeOf p b s
       ≡ (if not (sound (recordsOf p) b) then taken 20 0 b
       else if not (eqb (eventNumber (recordsOf p) b s) 0) then taken (eventNumber (recordsOf p) b s) 0 b
@@ -102,7 +99,7 @@ module _ (p : Plan) (ok : checkOf p .number ≡ 0) where
   unfolding takeOf
   take-is b s = rw ok
 
-  -- an event of reply number 0 leads to the board after it
+  -- An event that is taken leads to the board after it.
   pub took : (b : Board) (s : List ℕ) → sound (recordsOf p) b ≡ true → takeOf p b s .number ≡ 0 → (eventNumber (recordsOf p) b s ≡ 0) × (takeOf p b s .board ≡ boardAfter b s)
   took b s g e = rw (take-is b s, g) (go (eqb (eventNumber (recordsOf p) b s) 0) refl (rw (take-is b s, g) at e))
     where
@@ -111,7 +108,7 @@ module _ (p : Plan) (ok : checkOf p .number ≡ 0) where
       go true f e = (eqb-true _ _ f, refl)
       go false f e = clash (rw e at f)
 
-  -- the reply to a sound board has its outcome
+  -- The reply to a sound board is the first outcome that fits.
   pub outcome-is : (b : Board) → sound (recordsOf p) b ≡ true → replyOf p b .outcome ≡ outcomeOf (recordsOf p) b
   unfolding replyOf
   outcome-is b g = rw (ok, g) (reply-outcome (recordsOf p) b (outcomeOf (recordsOf p) b))
@@ -134,6 +131,7 @@ module _ (p : Plan) (ok : checkOf p .number ≡ 0) where
           done = omega (arith, w .done, event-more p ok b (w .held) (w .good) s fits e);
         }
 
+    -- Between events the board is sound, and safe in the words of the network.
     pub stands : {b : Board} {k : ℕ} → Run p b k → Stands p b k
     stands start =
         record {

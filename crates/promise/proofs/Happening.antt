@@ -1,18 +1,17 @@
 -- All that can happen next at a board is accepted. Assumes that the plan passes the check, that the board is sound, and
 -- that it is not stuck unless it is finished.
 use mathlib.Core.Path.{_≡_, refl, sym, _∙_}
-use mathlib.Core.Logic.{_⊎_, inl, inr}
+use mathlib.Core.Logic.{inl, inr}
 use mathlib.Core.Bool.{Bool, true, false, not, _&&_, _||_}
-use mathlib.Core.List.{List, [], _∷_, _++_}
-use Prim.Native.Nat.{ℕ, _+_, _*_, _^_, _≤_, _<_}
+use mathlib.Core.List.{List, []}
+use Prim.Native.Nat.{ℕ, _+_, _^_, _≤_, _<_}
 use native.Mathlib.Omega.{arith}
 use lib.Dec.{eqb, ltb, leb}
 use lib.ListN.{length, getD}
-use borrow.Author.Tests.{ltb-true, lt-ltb, le-ltb, le-leb, eqb-true, eq-eqb, ne-eqb, not-true}
+use borrow.Author.Tests.{lt-ltb, le-ltb, le-leb, eqb-true, eq-eqb}
 use Rattle.points.specs.Sets.{member, membersOf, belowOf, subsetOf, every, firstOf}
-use Rattle.points.specs.Laws.{First, first-member, member-small, count-le}
-use Rattle.plan.specs.Choice.{if_then_else_}
-use Rattle.plan.specs.Limits.{mostPoints, farthest, recordBytes}
+use Rattle.points.specs.Laws.{First, first-member, count-le}
+use Rattle.plan.specs.Limits.{farthest, recordBytes}
 use Rattle.plan.specs.APlan.{link, is, points, watched, linkTo, blank, recordsOf}
 use Rattle.plan.specs.Held.{All, IsByte}
 use Rattle.plan.specs.PlanFile.{wordAt}
@@ -21,18 +20,18 @@ use Rattle.plan.specs.declared.Record.{Record}
 use Rattle.plan.specs.declared.Plan.{Plan}
 use Rattle.plan.proofs.Words.{word-back}
 use Rattle.plan.proofs.Accepted.{Accepted, accepted-plan}
-use Rattle.board.specs.Boards.{isDone, minute, shortest, longest, running, each, sound}
+use Rattle.board.specs.Boards.{isDone, minute, longest, running, each, sound}
 use Rattle.board.specs.Windows.{isOpen, low, someOpen}
 use Rattle.board.specs.Replies.{finished, stuck, latest, outcomeOf, replyOf}
 use Rattle.board.specs.Events.{eventMinute, eventPoint, eventSet, noPoint, wellFormed, endsRunning, inTime, notLate, eventNumber}
 use Rattle.board.specs.declared.Board.{Board}
-use Rattle.board.specs.declared.Outcome.the-variants.{Finished, Stuck, Waiting, Offers}
+use Rattle.board.specs.declared.Outcome.the-variants.{Offers}
 use Rattle.board.proofs.Theorems.Each.{clash, both, and-both, as-unless, member-every, below-subset, at-each}
 use Rattle.board.proofs.Theorems.Soundness.{HeldBoard, Sound, sound-means}
 use Rattle.board.proofs.Theorems.Links.{link-at, link-to}
 use Rattle.board.proofs.Theorems.Taking.{opened, something-open}
 use Rattle.board.proofs.Theorems.Offered as offers
-use Rattle.promise.specs.Plays.{Event, eventBytes, CanHappen, soonestEnd, latestEnd}
+use Rattle.promise.specs.Plays.{Event, eventBytes, CanHappen}
 use Rattle.promise.proofs.Boards.{ends-in-plan}
 use Rattle.promise.proofs.Standing.{all-done}
 use Rattle.promise.proofs.Executor.{outcome-is}
@@ -51,7 +50,7 @@ reads : (e : Event) → e .minute < 2 ^ 32 → e .set < 2 ^ 32 → Reads (eventB
 reads e m s =
     record { minute = word-back (e .minute) m []; point = refl; set = word-back (e .set) s []; long = refl; zeros = (refl, refl, refl, refl) }
 
-pub are-bytes : (e : Event) → e .point < 256 → All IsByte (eventBytes e)
+are-bytes : (e : Event) → e .point < 256 → All IsByte (eventBytes e)
 are-bytes e h = omega arith
 
 -- the event s gets none of the numbers 21 to 30
@@ -162,6 +161,7 @@ module _ (p : Plan) (ok : checkOf p .number ≡ 0) (b : Board) (held : HeldBoard
         past true o = le-ltb (latest rs b) (e .minute) (m .in-latest (is-offer o))
         past false o = refl
 
+  -- Its sixteen bytes stand for it.
   pub happens-reads : Reads (eventBytes e) e
   happens-reads = reads e fits (m .small)
 

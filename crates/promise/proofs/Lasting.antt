@@ -1,42 +1,39 @@
 -- Haulage whose durations are fixed beforehand: in each play each link lasts as long as they say. For a plan that is
 -- accepted and passes. Assumes nothing of boards or events.
-use mathlib.Core.Path.{_≡_, refl, sym, _∙_}
-use mathlib.Core.Logic.{_⊎_, inl, inr}
-use mathlib.Core.Bool.{Bool, true, false, not, _&&_, _||_}
+use mathlib.Core.Path.{_≡_, sym, _∙_}
+use mathlib.Core.Logic.{inl, inr}
+use mathlib.Core.Bool.{true}
 use mathlib.Core.List.{List}
 use Prim.Native.Nat.{ℕ, _+_, _^_, _≤_, _<_}
 use native.Mathlib.Omega.{arith}
-use lib.Dec.{eqb}
 use borrow.Author.Tests.{eqb-true}
-use Rattle.points.specs.Sets.{member, from}
+use Rattle.points.specs.Sets.{member}
 use Rattle.points.specs.Laws.{member-empty, member-small}
 use Rattle.plan.specs.Limits.{mostPoints}
-use Rattle.plan.specs.APlan.{watched, linkTo, recordsOf}
+use Rattle.plan.specs.APlan.{watched, recordsOf}
 use Rattle.plan.specs.ReplyNumbers.{checkOf}
 use Rattle.plan.specs.declared.Record.{Record}
 use Rattle.plan.specs.declared.Plan.{Plan}
 use Rattle.plan.proofs.Accepted.{Accepted, accepted-plan}
-use Rattle.board.specs.Boards.{fresh, sound, isDone, minute}
+use Rattle.board.specs.Boards.{sound, isDone, minute}
 use Rattle.board.specs.Events.{eventMinute, eventPoint, eventSet, endsRunning, eventNumber, boardAfter, takeOf}
 use Rattle.board.specs.declared.Board.{Board}
-use Rattle.board.proofs.Theorems.Each.{clash, both, and-both, either}
-use Rattle.board.proofs.Theorems.Soundness.{HeldBoard, Sound, sound-means}
+use Rattle.board.proofs.Theorems.Each.{clash, both, and-both}
+use Rattle.board.proofs.Theorems.Soundness.{sound-means}
 use Rattle.board.proofs.Theorems.Marks.{names, named, Marks}
 use Rattle.board.proofs.Theorems.Taking.{Takes, takes, opened, event-marks}
 use Rattle.network.specs.Projection.{InBounds}
-use Rattle.network.proofs.States.{Done, Undone}
-use Rattle.network.proofs.Plans as plans
 use Rattle.network.proofs.Plans.{Running, Agrees}
-use Rattle.network.proofs.Plays.{OnTime, agrees-event}
+use Rattle.network.proofs.Plays.{agrees-event}
 use Rattle.promise.specs.Nets.{netOf, PassesPlan}
 use Rattle.promise.specs.Runs.{Run}
 use Rattle.promise.specs.Plays as plays
-use Rattle.promise.specs.Plays.{Event, eventBytes, CanHappen, firstEnd, endingAt, comesFirst, Foreman, Players, Make, choice, wait, Play, Finishes, Fixed, Lasted}
+use Rattle.promise.specs.Plays.{Event, eventBytes, CanHappen, firstEnd, endingAt, Foreman, Players, Make, choice, wait, Play, Finishes, Fixed, Lasted}
 use Rattle.promise.proofs.Nets.{link-of, joins, rules-of}
 use Rattle.promise.proofs.Boards.{saysOf, is-running, in-time-of, event-of}
 use Rattle.promise.proofs.Gathering.{set-of-out}
-use Rattle.promise.proofs.Executor.{Stands, stands, set-fits, took}
-use Rattle.promise.proofs.Happening.{Reads, happens, happens-bytes, happens-reads}
+use Rattle.promise.proofs.Executor.{Stands, stands, took}
+use Rattle.promise.proofs.Happening.{Reads, happens, happens-reads}
 use Rattle.promise.proofs.Making.{comes-first, first-le}
 use Rattle.promise.proofs.Players.{fixed, is-fixed}
 use Rattle.promise.proofs.Play.{free, happening-accepted, made-can-happen, happened-run, play-happened, finishes}

@@ -1,11 +1,14 @@
--- The theorems of the promise, for later crates to cite.
+-- The theorems of the promise, for later crates to cite: `executor` of `Executor`; `happening-accepted`, `happened-promised`
+-- and `finishes` of `Play`; `at-durations` of `Lasting`; `some-players` of `Players`; and the haul of document 01 as an
+-- instance, in `Haul`. The others lead up to these.
 pub mod Nets
+pub mod Gathering
 pub mod Boards
 pub mod Standing
 pub mod Executor
 pub mod Happening
-pub mod Gathering
 pub mod Making
-pub mod Play
 pub mod Players
+pub mod Play
 pub mod Lasting
+pub mod Haul

@@ -2,26 +2,26 @@
 -- neither finished nor stuck.
 use mathlib.Core.Path.{_≡_, refl, sym, _∙_}
 use mathlib.Core.Logic.{_⊎_, inl, inr}
-use mathlib.Core.Bool.{Bool, true, false, not, _&&_}
+use mathlib.Core.Bool.{Bool, true, false, _&&_}
 use mathlib.Core.List.{List}
-use Prim.Native.Nat.{ℕ, _+_, _*_, _^_, _≤_, _<_}
+use Prim.Native.Nat.{ℕ, _+_, _≤_, _<_}
 use native.Mathlib.Omega.{arith}
 use lib.Dec.{eqb, leb}
-use lib.ListN.{length, getD}
+use lib.ListN.{getD}
 use lib.Pow.{pow-pos}
 use borrow.Author.Tests.{leb-true, leb-false, eqb-true, eq-eqb, not-false}
 use Rattle.points.specs.Sets.{member, from}
 use Rattle.points.specs.Laws.{member-le, count-le}
 use Rattle.plan.specs.Choice.{if_then_else_}
 use Rattle.plan.specs.Limits.{mostPoints, farthest}
-use Rattle.plan.specs.APlan.{link, is, some, points, watched, linkTo, blank, recordsOf}
+use Rattle.plan.specs.APlan.{link, is, some, watched, blank, recordsOf}
 use Rattle.plan.specs.ReplyNumbers.{checkOf}
 use Rattle.plan.specs.declared.Record.{Record}
 use Rattle.plan.specs.declared.Plan.{Plan}
 use Rattle.plan.proofs.Accepted.{Accepted, accepted-plan, first-found}
-use Rattle.board.specs.Boards.{running, longest, minute, sound}
+use Rattle.board.specs.Boards.{running, minute, sound}
 use Rattle.board.specs.Windows.{low, never, someOpen}
-use Rattle.board.specs.Replies.{finished, stuck, latest, stateOf, replyOf}
+use Rattle.board.specs.Replies.{stuck, latest, stateOf, replyOf}
 use Rattle.board.specs.Events.{noPoint, endsRunning}
 use Rattle.board.specs.declared.Board.{Board}
 use Rattle.board.specs.declared.State.the-variants.{Offered}
@@ -36,7 +36,7 @@ use Rattle.promise.proofs.Boards.{ends-in-plan}
 use Rattle.promise.proofs.Gathering.{least-of-le, least-of-at, set-of-in, set-of-out, set-of-fits}
 use Rattle.promise.proofs.Executor.{outcome-is}
 
--- what comes first is at the first end or before, and has all that ends then
+-- What comes first is at the first end or before, and has all that ends then.
 module _ (rs : List Record) (b : Board) (at : ℕ → ℕ) where
   pub comes-first : (t q : ℕ)
       → (comesFirst rs b at t q .minute ≤ firstEnd rs b at) × (comesFirst rs b at t q .set ≡ endingAt rs b at (comesFirst rs b at t q .minute))
@@ -73,7 +73,7 @@ module _ (p : Plan) (ok : checkOf p .number ≡ 0) (b : Board) (held : HeldBoard
       omega (arith, l .long, w .past _ (l .from))
 
   module _ (h : Haulage rs b) where
-    -- no running link ends before the first
+    -- No running link ends before the first.
     pub first-le : (C : ℕ) → endsRunning rs b C ≡ true → firstEnd rs b (h .at) ≤ h .at C
     first-le C r =
         least-of-le (endsRunning rs b) (h .at) mostPoints 0 C (omega arith) (omega (arith, ends-in-plan rs known b C r .0, known .few)) r

@@ -10,23 +10,24 @@ use lib.Dec.{eqb, ltb}
 use lib.IntN.{ℤ, pos, negsuc}
 use lib.ListN.{length, getD}
 use borrow.Author.Tests.{ltb-true, lt-ltb, eqb-true, eq-eqb, not-true}
-use Rattle.plan.specs.APlan.{Kind, point, link, ordinary, wait, is, some, points, watched, endsAt, firstThat, linkTo, blank, gapOf}
+use Rattle.plan.specs.APlan.{Kind, point, link, ordinary, wait, is, some, points, watched, endsAt, linkTo, blank, gapOf}
 use Rattle.plan.specs.declared.Record.{Record}
 use Rattle.plan.proofs.Accepted as plan
 use Rattle.plan.proofs.Accepted.{Accepted, getD-some, first-found, not-a}
 use Rattle.board.specs.Boards.{shortest, longest}
 use Rattle.board.proofs.Theorems.Each.{clash, both, either}
-use Rattle.network.proofs.States.{State, Done, Undone, ask}
+use Rattle.network.proofs.States.{State, Undone, ask}
 use Rattle.network.proofs.Plans.{Watched, Foremans, Open, Shut, by-record, by-wait, Rules}
 use Rattle.promise.specs.Nets.{Has, OrdinaryIn, LinkIn, WaitIn, netOf}
 
 -- ---- signed numbers
 
+-- a number whose up is not 0 is that up, and one whose down is not 0 has no up
 pos-up : (z : ℤ) → 1 ≤ gapOf z .up → z ≡ pos (gapOf z .up)
 pos-up (pos n) h = refl
 pos-up (negsuc n) h = absurd (omega arith)
 
-pub up-of : {z : ℤ} {n : ℕ} → z ≡ pos n → gapOf z .up ≡ n
+up-of : {z : ℤ} {n : ℕ} → z ≡ pos n → gapOf z .up ≡ n
 up-of e = ap (λ z. gapOf z .up) e
 
 down-below : (z : ℤ) → 0 < gapOf z .down → gapOf z .up < gapOf z .down
@@ -48,6 +49,7 @@ pub record Joins (rs : List Record) (A x y C : ℕ) : Type 0 where
   pub long : longest (linkTo rs C) ≡ y
 
 module _ (rs : List Record) (ok : Accepted rs) where
+  -- Each record keeps its rules.
   pub keeps : {k : Kind} {r : Record} → Has rs k r → plan.Rules rs r
   keeps h = rw (h .here) at (ok .each (h .place) (h .listed))
 
@@ -57,6 +59,7 @@ module _ (rs : List Record) (ok : Accepted rs) where
 
   -- ---- what a record says
 
+  -- Each ordinary record, wait and link is one of the network.
   pub ordinary-in : {r : Record} → Has rs ordinary r → OrdinaryIn rs (r .a) (gapOf (r .first) .up) (gapOf (r .first) .down) (r .b)
   ordinary-in {r} h = record { what = r; has = h; from = refl; to = refl; up = refl; down = refl }
 

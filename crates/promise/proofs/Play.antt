@@ -4,7 +4,7 @@ use mathlib.Core.Path.{_≡_, refl, sym, _∙_}
 use mathlib.Core.Logic.{_⊎_, inl, inr}
 use mathlib.Core.Bool.{Bool, true, false, not}
 use mathlib.Core.List.{List}
-use Prim.Native.Nat.{ℕ, zero, suc, _+_, _≤_, _<_}
+use Prim.Native.Nat.{ℕ, zero, suc, _+_, _<_}
 use native.Mathlib.Omega.{arith}
 use Rattle.plan.specs.Choice.{if_then_else_}
 use Rattle.plan.specs.APlan.{points, recordsOf}
@@ -12,26 +12,24 @@ use Rattle.plan.specs.ReplyNumbers.{checkOf}
 use Rattle.plan.specs.declared.Record.{Record}
 use Rattle.plan.specs.declared.Plan.{Plan}
 use Rattle.plan.proofs.Accepted.{Accepted, accepted-plan}
-use Rattle.board.specs.Boards.{fresh, sound}
+use Rattle.board.specs.Boards.{sound}
 use Rattle.board.specs.Windows.{someOpen}
-use Rattle.board.specs.Replies.{finished, stuck, outcomeOf, replyOf}
-use Rattle.board.specs.Events.{eventNumber, takeOf}
-use Rattle.board.specs.Verdicts.{verdictOf}
+use Rattle.board.specs.Replies.{finished, stuck, outcomeOf}
+use Rattle.board.specs.Events.{takeOf}
 use Rattle.board.specs.declared.Board.{Board}
 use Rattle.board.specs.declared.Outcome.the-variants.{Finished, Stuck, Waiting, Offers}
-use Rattle.board.specs.declared.Verdict.the-variants.{Kept}
-use Rattle.board.proofs.Theorems.Soundness.{sound-means}
+use Rattle.board.proofs.Theorems.Soundness.{HeldBoard, sound-means}
 use Rattle.board.proofs.Theorems.Each.{differ}
-use Rattle.board.proofs.Theorems.Offered as offers
 use Rattle.promise.specs.Nets.{PassesPlan}
 use Rattle.promise.specs.Runs.{Run, Promised}
 use Rattle.promise.specs.Runs as runs
 use Rattle.promise.specs.Plays.{Event, eventBytes, CanHappen, Happened, Players, Make, choice, wait, Play, Finishes}
 use Rattle.promise.specs.Plays as plays
 use Rattle.promise.proofs.Standing.{not-stuck}
-use Rattle.promise.proofs.Executor.{Stands, take-is, outcome-is, stands, executor}
+use Rattle.promise.proofs.Executor.{take-is, outcome-is, stands, executor}
 use Rattle.promise.proofs.Happening.{happens, happens-bytes}
 use Rattle.promise.proofs.Making.{by-choice, by-wait}
+use Rattle.promise.proofs.Players.{some-players}
 
 -- a board that waits has nothing open
 waiting : (rs : List Record) (b : Board) → outcomeOf rs b ≡ Waiting → (stuck rs b ≡ false) × (someOpen rs b ≡ false)
@@ -55,20 +53,24 @@ module _ (p : Plan) (ok : checkOf p .number ≡ 0) (passes : PassesPlan p) where
     good : sound rs b ≡ true
     good = stands p ok passes r .good
 
+    held : HeldBoard b
+    held = stands p ok passes r .held
+
+    -- The board is not stuck unless it is finished.
     pub free : finished rs b ≡ false → stuck rs b ≡ false
-    free = not-stuck rs known passes b (stands p ok passes r .held) (sound-means rs b good) (stands p ok passes r .safe)
+    free = not-stuck rs known passes b held (sound-means rs b good) (stands p ok passes r .safe)
 
     -- Whatever can happen next is accepted.
     pub happening-accepted : {e : Event} → CanHappen p b e → takeOf p b (eventBytes e) .number ≡ 0
     happening-accepted {e} c =
-        rw (take-is p ok b (eventBytes e), good, happens p ok b (stands p ok passes r .held) good free e c)
+        rw (take-is p ok b (eventBytes e), good, happens p ok b held good free e c)
 
     -- What haulage and the foreman make can happen.
     pub made-can-happen : {x : Players p} {e : Event} → Make p x k b e → CanHappen p b e
-    made-can-happen {x} (choice g o) = by-choice p ok b (stands p ok passes r .held) good (x .haulage k b g) (x .foreman k b o)
+    made-can-happen {x} (choice g o) = by-choice p ok b held good (x .haulage k b g) (x .foreman k b o)
     made-can-happen {x} (wait g o) =
         let t = waiting rs b (sym (outcome-is p ok b g) ∙ o) in
-        by-wait p ok b (stands p ok passes r .held) good (x .haulage k b g) (t .1) (t .0)
+        by-wait p ok b held good (x .haulage k b g) (t .1) (t .0)
 
     -- Where not all is done they make something.
     pub make-on : (x : Players p) → (finished rs b ≡ true) ⊎ ((e : Event) × Make p x k b e)
@@ -85,11 +87,17 @@ module _ (p : Plan) (ok : checkOf p .number ≡ 0) (passes : PassesPlan p) where
   happened-run plays.start = runs.start
   happened-run (plays.next {b} e h c) =
       let r = happened-run h in
-      runs.next (eventBytes e) r (happens-bytes p ok b (stands p ok passes r .held) (good r) (free r) e c) (happening-accepted r c)
+      runs.next (eventBytes e) r (happens-bytes p ok b (held r) (good r) (free r) e c) (happening-accepted r c)
 
   -- Whatever happens, what is promised of runs holds at each board.
   pub happened-promised : {b : Board} {k : ℕ} → Happened p b k → Promised p b k
   happened-promised h = executor p ok passes (happened-run h)
+
+  -- While not all is done, something can happen.
+  pub happening-on : {b : Board} {k : ℕ} → Happened p b k → (finished rs b ≡ true) ⊎ ((e : Event) × CanHappen p b e)
+  happening-on h =
+      let r = happened-run h in
+      elim (make-on r (some-players p ok)) [ inl f ↦ inl f | inr m ↦ inr (m .0, made-can-happen r (m .1)) ]
 
   module _ (x : Players p) where
     -- A play is made of what can happen.

@@ -1,37 +1,36 @@
 -- There are players for every accepted plan: haulage can have any durations in bounds fixed beforehand, and an offer always
 -- offers something. Assumes that the plan passes the check.
 use mathlib.Core.Path.{_≡_, refl, sym, _∙_}
-use mathlib.Core.Logic.{_⊎_, inl, inr}
-use mathlib.Core.Bool.{Bool, true, false, not, _&&_, _||_}
+use mathlib.Core.Logic.{inl, inr}
+use mathlib.Core.Bool.{Bool, true, false, not, _||_}
 use mathlib.Core.List.{List}
-use Prim.Native.Nat.{ℕ, _+_, _-_, _≤_, _<_, min, max}
+use Prim.Native.Nat.{ℕ, _+_, _-_, _≤_, max}
 use native.Mathlib.Omega.{arith}
-use lib.Dec.{eqb, ltb}
-use borrow.Author.Tests.{ltb-false, le-ltb, not-true, not-false}
+use lib.Dec.{ltb}
+use borrow.Author.Tests.{ltb-false, le-ltb}
 use Rattle.plan.specs.Choice.{if_then_else_}
 use Rattle.plan.specs.Limits.{mostPoints, farthest}
-use Rattle.plan.specs.APlan.{link, is, watched, linkTo, recordsOf}
+use Rattle.plan.specs.APlan.{watched, linkTo, recordsOf}
 use Rattle.plan.specs.ReplyNumbers.{checkOf}
 use Rattle.plan.specs.declared.Record.{Record}
 use Rattle.plan.specs.declared.Plan.{Plan}
 use Rattle.plan.proofs.Accepted.{Accepted, accepted-plan}
-use Rattle.board.specs.Boards.{sound, isDone, minute, shortest, longest, running}
-use Rattle.board.specs.Windows.{isOpen, low, H, allAbove, someOpen}
+use Rattle.board.specs.Boards.{sound, isDone, minute, longest}
+use Rattle.board.specs.Windows.{isOpen, low, H, allAbove}
 use Rattle.board.specs.Replies.{latest, stateOf, bare, soundReply, replyOf}
-use Rattle.board.specs.Events.{endsRunning}
 use Rattle.board.specs.declared.Board.{Board}
 use Rattle.board.specs.declared.State.the-variants.{Done, Watched, Shut, Held, Offered}
 use Rattle.board.specs.declared.Outcome.the-variants.{Refused, Offers}
 use Rattle.board.proofs.Theorems.Each.{clash, differ, both, point-every}
-use Rattle.board.proofs.Theorems.Soundness.{Sound, sound-means}
+use Rattle.board.proofs.Theorems.Soundness.{sound-means}
 use Rattle.board.proofs.Theorems.Low.{low-near}
 use Rattle.board.proofs.Theorems.Taking.{opened}
 use Rattle.board.proofs.Theorems.Offered as offers
 use Rattle.network.specs.Projection.{InBounds}
 use Rattle.network.proofs.Search.{all-or-one}
 use Rattle.promise.specs.Nets.{netOf}
-use Rattle.promise.specs.Plays.{Haulage, Choice, Haulier, Foreman, Players, Fixed}
-use Rattle.promise.proofs.Nets.{link-of, joins, rules-of}
+use Rattle.promise.specs.Plays.{Haulier, Foreman, Players, Fixed}
+use Rattle.promise.proofs.Nets.{joins, rules-of}
 use Rattle.promise.proofs.Boards.{running-of, in-time-of}
 use Rattle.promise.proofs.Standing.{told}
 use Rattle.promise.proofs.Executor.{outcome-is}
@@ -59,11 +58,12 @@ module _ (p : Plan) (ok : checkOf p .number ≡ 0) where
               (omega arith, omega (arith, i .0), omega (arith, i .1, t));
         }
 
+    -- and then ends each link as they say
     pub is-fixed : Fixed p ω fixed
     unfolding fixed
     is-fixed = record { at = λ k b g C l. omega arith }
 
-  -- the longest durations are in bounds
+  -- The longest durations are in bounds.
   pub longest-in-bounds : InBounds (netOf rs) (λ C. longest (linkTo rs C))
   longest-in-bounds = record { within = λ l. let j = joins rs known l in omega (arith, j .long, rules-of rs known .link-bounds l) }
 

@@ -4,43 +4,42 @@ use mathlib.Core.Path.{_≡_, refl, sym, _∙_}
 use mathlib.Core.Logic.{_⊎_, inl, inr}
 use mathlib.Core.Bool.{Bool, true, false, not, cond, _&&_, _||_}
 use mathlib.Core.List.{List, [], _∷_}
-use Prim.Native.Nat.{ℕ, zero, suc, _+_, _-_, _^_, _≤_, _<_, min}
+use Prim.Native.Nat.{ℕ, zero, suc, _+_, _-_, _≤_, _<_, min}
 use native.Mathlib.Omega.{arith}
 use lib.Dec.{eqb, ltb}
 use lib.ListN.{length, getD}
 use borrow.Author.Tests.{ltb-true, lt-ltb, le-leb, eqb-true, eq-eqb, not-true}
-use Rattle.points.specs.Sets.{member, membersOf, countOf, belowOf, passing, from, every}
+use Rattle.points.specs.Sets.{member, membersOf, countOf, belowOf, passing, from}
 use Rattle.points.specs.Laws.{member-small, member-below, same-members, below-fits, count-le, count-members}
 use Rattle.plan.specs.Choice.{if_then_else_}
 use Rattle.plan.specs.Limits.{mostPoints, farthest}
-use Rattle.plan.specs.APlan.{link, ordinary, wait, is, some, points, linkTo, blank, gapOf}
+use Rattle.plan.specs.APlan.{ordinary, wait, is, some, points, linkTo, blank, gapOf}
 use Rattle.plan.specs.declared.Record.{Record}
 use Rattle.plan.proofs.Accepted.{Accepted}
-use Rattle.board.specs.Boards.{isDone, minute, shortest, longest, running}
+use Rattle.board.specs.Boards.{isDone, minute, running}
 use Rattle.board.specs.Windows.{isOpen, low, never, bound, high, H, someOpen, allAbove}
 use Rattle.board.specs.Replies.{finished, stuck}
 use Rattle.board.specs.Verdicts.{ordinaryKept, waitKept, kept, firstBroken}
 use Rattle.board.specs.declared.Board.{Board}
-use Rattle.board.specs.declared.Verdict.the-variants.{Kept, Broken}
+use Rattle.board.specs.declared.Verdict.the-variants.{Kept}
 use Rattle.board.proofs.Theorems.Each.{clash, both, unless, every-point, point-every}
 use Rattle.board.proofs.Theorems.Soundness.{HeldBoard, Sound}
 use Rattle.board.proofs.Theorems.Low.{low-near}
 use Rattle.board.proofs.Theorems.Taking.{opened, something-open}
-use Rattle.network.specs.Projection.{Net, Edge}
+use Rattle.network.specs.Projection.{Edge}
 use Rattle.network.specs.Projection as projection
 use Rattle.network.specs.Passing.{Passes}
-use Rattle.network.proofs.States.{State, Done, Undone, Invariant}
+use Rattle.network.proofs.States.{Invariant}
 use Rattle.network.proofs.Search.{all-or-one}
 use Rattle.network.proofs.Stuck.{bound-now}
-use Rattle.network.proofs.Plans.{Running, Open, Ready, opens, runs, Safe, InTime}
-use Rattle.network.proofs.Plans as plans
+use Rattle.network.proofs.Plans.{Ready, opens, runs, Safe, InTime}
 use Rattle.network.proofs.Durations as durations
 use Rattle.network.proofs.Safety.{open-or-running, low-to-high, all-kept}
-use Rattle.promise.specs.Nets.{Has, OrdinaryIn, LinkIn, netOf}
+use Rattle.promise.specs.Nets.{Has, OrdinaryIn, netOf}
 use Rattle.promise.proofs.Nets.{keeps, has-some, ordinary-in, wait-in, link-of, rules-of}
 use Rattle.promise.proofs.Boards.{saysOf, least-at, H-at, in-time-of, open-of, is-open, low-from}
 
--- one of two answers for each number
+-- Each number passes a test or does not.
 pub told : (f : ℕ → Bool) (q : ℕ) → (f q ≡ true) ⊎ (f q ≡ false)
 told f q = go (f q) refl
   where
@@ -75,7 +74,7 @@ module _ (rs : List Record) (b : Board) (held : HeldBoard b) (w : Sound rs b) wh
         | inr x ↦ x
       ]
     where
-      same : ((q : ℕ) → q < points rs → isDone b q ≡ true) → (q : ℕ) → q < 32 → (d : Bool) → isDone b q ≡ d → d ≡ member (belowOf (points rs)) q
+      same : ((q : ℕ) → q < points rs → isDone b q ≡ true) → (q : ℕ) → q < mostPoints → (d : Bool) → isDone b q ≡ d → d ≡ member (belowOf (points rs)) q
       same all q l true h = sym (member-below (points rs) q ∙ lt-ltb q _ (omega (arith, w .inside q l h)))
       same all q l false h = go (member (belowOf (points rs)) q) refl
         where
@@ -159,7 +158,7 @@ module _ (rs : List Record) (ok : Accepted rs) (passes : Passes (netOf rs)) (b :
     where
       go : (o r a : Bool) → someOpen rs b ≡ o → some (running b) rs ≡ r → allAbove rs b ≡ a → (if o then a else not r) ≡ false
       go true r true f g h =
-          elim (H-at rs b (from 0 mostPoints)) [
+          elim (H-at rs b) [
             | inl n ↦ let q = one-open rs b f in absurd (no-H h (q .0) (q .1) n)
             | inr q ↦ absurd (by-high h (q .0) (q .1) (q .2))
           ]

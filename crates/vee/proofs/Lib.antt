@@ -8,3 +8,6 @@ pub mod Judges
 pub mod Walks
 pub mod Layouts
 pub mod Counts
+pub mod Rules
+pub mod Plans
+pub mod Sheets

@@ -11,3 +11,4 @@ pub mod Counts
 pub mod Rules
 pub mod Plans
 pub mod Sheets
+pub mod Orders

@@ -12,3 +12,4 @@ pub mod Rules
 pub mod Plans
 pub mod Sheets
 pub mod Orders
+pub mod Testing

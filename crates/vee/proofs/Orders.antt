@@ -50,11 +50,11 @@ module _ (r : Record) (rs : List Record) where
   unfolding howMany
   not-here j n = rw (ne-eqb (r .kind) j n) (omega arith)
 
-  span-here : r .kind ≡ 2 → spans (r ∷ rs) ≡ spanOf r ∷ spans rs
+  pub span-here : r .kind ≡ 2 → spans (r ∷ rs) ≡ spanOf r ∷ spans rs
   unfolding spans
   span-here e = rw e refl
 
-  span-not : (r .kind ≡ 2 → ⊥) → spans (r ∷ rs) ≡ spans rs
+  pub span-not : (r .kind ≡ 2 → ⊥) → spans (r ∷ rs) ≡ spans rs
   unfolding spans
   span-not n = rw (ne-eqb (r .kind) 2 n) refl
 

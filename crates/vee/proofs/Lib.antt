@@ -8,3 +8,8 @@ pub mod Judges
 pub mod Walks
 pub mod Layouts
 pub mod Counts
+pub mod Rules
+pub mod Plans
+pub mod Sheets
+pub mod Orders
+pub mod Testing

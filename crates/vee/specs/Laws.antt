@@ -10,6 +10,7 @@ use Rattle.network.specs.Passing.{Joined, Cycle, Consistent, Shortest, Fine, Ba
 use Rattle.network.specs.Laws.{over}
 use Rattle.vee.specs.Tables.{Table, bias, none}
 use Rattle.vee.specs.Distances.{Inside, Distances}
+use Rattle.vee.specs.Judging.{FirstBad}
 use Rattle.vee.specs.Pairs.{Reached, Met, apart, met, Missed}
 
 -- edges that are the same either way have the same distances
@@ -60,3 +61,33 @@ module _ (E : ℕ → ℕ → ℕ → ℕ → Type 0) (n : ℕ) (inside : Inside
           joined = record { up = a .up; down = a .down; walk = a .walk };
           none = λ s. m .none-reaches (reached (s .walk) (a .up) (a .down) (a .weight) (s .least (a .walk)));
         }
+
+-- edges that are the same either way have the same cycles, and the same pairs are fine and bad
+module _ {E F : ℕ → ℕ → ℕ → ℕ → Type 0} (to : (X Y u d : ℕ) → E X Y u d → F X Y u d) (from : (X Y u d : ℕ) → F X Y u d → E X Y u d) where
+  vee-over : {X Y u d : ℕ} → Vee E X Y u d → Vee F X Y u d
+  vee-over (vee w w′) = vee (over (λ X Y u d e. record { edge = to X Y u d (e .edge); below = e .below }) w) (over (λ X Y u d e. record { edge = to X Y u d (e .edge); above = e .above }) w′)
+
+  pub same-cycle : Cycle E → Cycle F
+  same-cycle c = record { at = c .at; up = c .up; down = c .down; walk = over to (c .walk); below = c .below }
+
+  pub same-consistent : Consistent E → Consistent F
+  same-consistent c = record { round = λ w. c .round (over from w) }
+
+  same-joined : {X Y : ℕ} → Joined E X Y → Joined F X Y
+  same-joined j = record { up = j .up; down = j .down; walk = over to (j .walk) }
+
+  pub same-shortest : {X Y : ℕ} → Shortest E X Y → Shortest F X Y
+  same-shortest s = record { up = s .up; down = s .down; walk = vee-over (s .walk); least = λ w. s .least (over from w) }
+
+  pub same-fine : {X Y : ℕ} → Fine E X Y → Fine F X Y
+  same-fine f j = same-shortest (f (record { up = j .up; down = j .down; walk = over from (j .walk) }))
+
+  pub same-good : Good E → Good F
+  same-good g = record { consistent = same-consistent (g .consistent); dispatchable = record { best = λ X Y. same-fine (g .dispatchable .best X Y) } }
+
+pub same-bad : {E F : ℕ → ℕ → ℕ → ℕ → Type 0} → ((X Y u d : ℕ) → E X Y u d → F X Y u d) → ((X Y u d : ℕ) → F X Y u d → E X Y u d) → {X Y : ℕ} → FirstBad E X Y → FirstBad F X Y
+same-bad to from b = record {
+  consistent = same-consistent to from (b .consistent);
+  bad = record { joined = same-joined to from (b .bad .joined); none = λ s. b .bad .none (same-shortest from to s) };
+  before = λ X′ Y′ h. same-fine to from (b .before X′ Y′ h);
+}

@@ -8,5 +8,6 @@ pub mod Judging
 pub mod Pairs
 pub mod Laws
 pub mod PlanTest
+pub mod Single
 pub mod Walked
 pub mod Layout

@@ -1,0 +1,70 @@
+-- `vee::test` meets its contract. Assumes nothing.
+use Rattle.vee.proofs.Testing.{refused-plan, few-records, rows-ready, too-many-plan, walk-ready, tested-plan}
+use Rattle.vee.specs.Sheet.{sheetRoom}
+use lib.ListN.{length-map, length-replicate}
+use Prim.Native.Nat.{ℕ}
+use native.Mathlib.Omega.{arith}
+use borrow.Author.Needs.{needs}
+use Rattle.vee.proofs.test.Statement.{statement}
+use Rattle.vee.proofs.test.Tie as tie
+use Rattle.vee.proofs.test.Reads as reads
+use Rattle.vee.proofs.test.Lts as lts
+use Rattle.plan.proofs.check.Reads as check-reads
+use Rattle.plan.proofs.points_of.Reads as points-of-reads
+use Rattle.vee.proofs.layout.lay_out.Reads as lay-out-reads
+use Rattle.vee.proofs.links_of.Reads as links-of-reads
+use Rattle.vee.proofs.walk.projections.Reads as projections-reads
+use Rattle.vee.proofs.walk.walk.Reads as walk-reads
+
+check-requires : tie.Need-check-requires
+check-requires c κs = search needs
+
+returns : tie.Need-returns
+returns c = refused-plan _ (c .before .before .check .ensures) (c .if1 .taken)
+
+lay-out-requires : tie.Need-lay-out-requires
+lay-out-requires c κs = (few-records _ (c .before .before .before .check .ensures) (c .before .if1 .left), length-replicate {A = ℕ} sheetRoom 0)
+
+points-of-requires : tie.Need-points-of-requires
+points-of-requires c κs = search needs
+
+cast-n : tie.Need-cast-n
+cast-n c = search needs
+
+links-of-requires : tie.Need-links-of-requires
+links-of-requires c κs = few-records _ (c .before .before .before .before .before .check .ensures) (c .before .before .before .if1 .left)
+
+add-past : tie.Need-add-past
+add-past c = omega (arith, rows-ready _ (c .before .before .before .before .before .before .check .ensures) (c .before .before .before .before .if1 .left) (rw length-map at (c .before .before .before .before .before .before .before .good .0 .1 .1 .1 .0 .1 .0 .1)) (c .before .before .lay-out .ensures) (c .before .points-of .ensures) (c .links-of .ensures) .rows)
+
+projections-requires : tie.Need-projections-requires
+projections-requires c κs = rows-ready _ (c .before .before .before .before .before .before .before .check .ensures) (c .before .before .before .before .before .if1 .left) (rw length-map at (c .before .before .before .before .before .before .before .before .good .0 .1 .1 .1 .0 .1 .0 .1)) (c .before .before .before .lay-out .ensures) (c .before .before .points-of .ensures) (c .before .links-of .ensures)
+
+returns-2 : tie.Need-returns-2
+returns-2 c = too-many-plan _ (c .before .before .before .before .before .before .before .before .before .check .ensures) (c .before .before .before .before .before .before .before .if1 .left) (rw length-map at (c .before .before .before .before .before .before .before .before .before .before .good .0 .1 .1 .1 .0 .1 .0 .1)) (c .before .before .before .before .before .lay-out .ensures) (c .before .before .before .before .points-of .ensures) (c .before .before .before .links-of .ensures) (c .before .projections .ensures) (c .if2 .taken)
+
+cast-walk : tie.Need-cast-walk
+cast-walk c = search needs
+
+walk-requires : tie.Need-walk-requires
+walk-requires c κs = walk-ready _ (c .before .before .before .before .before .before .before .before .before .before .before .before .before .before .check .ensures) (c .before .before .before .before .before .before .before .before .before .before .before .before .if1 .left) (rw length-map at (c .before .before .before .before .before .before .before .before .before .before .before .before .before .before .before .good .0 .1 .1 .1 .0 .1 .0 .1)) (c .before .before .before .before .before .before .before .before .before .before .lay-out .ensures) (c .before .before .before .before .before .before .before .before .before .points-of .ensures) (c .before .before .before .before .before .before .before .before .links-of .ensures) (c .before .before .before .before .before .before .projections .ensures) (c .before .before .before .before .before .if2 .left)
+
+returns-3 : tie.Need-returns-3
+returns-3 c = tested-plan _ (c .before .before .before .before .before .before .before .before .before .before .before .before .before .before .before .check .ensures) (c .before .before .before .before .before .before .before .before .before .before .before .before .before .if1 .left) (rw length-map at (c .before .before .before .before .before .before .before .before .before .before .before .before .before .before .before .before .good .0 .1 .1 .1 .0 .1 .0 .1)) (c .before .before .before .before .before .before .before .before .before .before .before .lay-out .ensures) (c .before .before .before .before .before .before .before .before .before .before .points-of .ensures) (c .before .before .before .before .before .before .before .before .before .links-of .ensures) (c .before .before .before .before .before .before .before .projections .ensures) (c .before .before .before .before .before .before .if2 .left) (c .walk .ensures)
+
+pub test-spec : {M : Type 1} → statement M
+test-spec =
+    tie.close
+    (tie.spec
+    check-requires
+    returns
+    lay-out-requires
+    points-of-requires
+    cast-n
+    links-of-requires
+    add-past
+    projections-requires
+    returns-2
+    cast-walk
+    walk-requires
+    returns-3)

@@ -7,6 +7,7 @@ mod Sofar
 pub mod Words
 pub mod Entries
 pub mod RoundTrip
+pub mod Accepted
 mod Pairing
 mod Decoding
 mod Putting

@@ -65,7 +65,7 @@ upto-8 : (o m z n : Bool) (x y : ℕ) → (n ≡ true → x ≡ y)
 upto-8 o m z true x y h = rw (h refl)
 upto-8 o m z false x y h = refl
 
-both : (a b : Bool) → (a && b) ≡ true → (a ≡ true) × (b ≡ true)
+pub both : (a b : Bool) → (a && b) ≡ true → (a ≡ true) × (b ≡ true)
 both true b e = (refl, e)
 both false b e = absurd (let z : _≡_ {A = ℕ} 0 1 = cc in omega arith)
 
@@ -114,7 +114,7 @@ module _ (rs : List Record) (s : Seen) (ends : List Ending) (w : Shows rs s ends
 
 -- ---- one record more
 
-last-snoc : (k : ℕ) (rs : List Record) (r : Record) → lastKind k (rs ++ (r ∷ [])) ≡ r .kind
+pub last-snoc : (k : ℕ) (rs : List Record) (r : Record) → lastKind k (rs ++ (r ∷ [])) ≡ r .kind
 unfolding lastKind
 last-snoc k [] r = refl
 last-snoc k (x ∷ rs) r = last-snoc (x .kind) rs r
@@ -136,12 +136,12 @@ some-snoc so [] r = refl
 some-snoc so (x ∷ rs) r = rw (some-snoc so rs r) (or-swap (so x) (so r) (some so rs))
 
 -- a record that is not so changes nothing for the first that is; one that is so is the first where none was before
-first-not : (so : Record → Bool) (rs : List Record) (r : Record) → so r ≡ false → firstThat so (rs ++ (r ∷ [])) ≡ firstThat so rs
+pub first-not : (so : Record → Bool) (rs : List Record) (r : Record) → so r ≡ false → firstThat so (rs ++ (r ∷ [])) ≡ firstThat so rs
 unfolding firstThat
 first-not so [] r h = rw h
 first-not so (x ∷ rs) r h = rw (first-not so rs r h)
 
-first-so : (so : Record → Bool) (rs : List Record) (r : Record) → some so rs ≡ false → so r ≡ true → firstThat so (rs ++ (r ∷ [])) ≡ r
+pub first-so : (so : Record → Bool) (rs : List Record) (r : Record) → some so rs ≡ false → so r ≡ true → firstThat so (rs ++ (r ∷ [])) ≡ r
 unfolding firstThat some
 first-so so [] r h e = rw e
 first-so so (x ∷ rs) r h e = by-test (so x) h (first-so so rs r)
@@ -152,7 +152,7 @@ first-so so (x ∷ rs) r h e = by-test (so x) h (first-so so rs r)
     by-test false h f = f h e
 
 -- the kind of a record is the byte of that kind
-kind-byte : (x : ℕ) (k : Kind) → isKnown k ≡ true → kindOf x ≡ k → x ≡ byteOf k
+pub kind-byte : (x : ℕ) (k : Kind) → isKnown k ≡ true → kindOf x ≡ k → x ≡ byteOf k
 kind-byte zero k h e = absurd (let z : _≡_ {A = ℕ} 0 1 = cc in omega arith)
 kind-byte (suc zero) k h e = ap byteOf e
 kind-byte (suc (suc zero)) k h e = ap byteOf e

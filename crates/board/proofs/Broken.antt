@@ -1,0 +1,70 @@
+-- The loop that looks for the first broken record: that a record is judged by its own points and by where the link to its
+-- second one starts, and what a turn, a broken record and the end give. Assumes nothing.
+use mathlib.Core.Path.{_≡_, refl, sym, ap, _∙_}
+use mathlib.Core.Bool.{Bool, true, false}
+use mathlib.Core.List.{List, [], _∷_}
+use Prim.Native.Nat.{ℕ, suc, _+_, _-_, _%_, _≤_, _<_, min}
+use native.Mathlib.Omega.{arith}
+use native.Mathlib.Numerals.{add-one}
+use lib.Dec.{eqb, leb}
+use lib.ListN.{length, drop, getD, drop-of-length-le}
+use lib.Seq.{drop-cons}
+use borrow.Author.Tests.{eqb-true, ne-eqb, le-leb, lt-leb}
+use Rattle.plan.specs.Choice.{if_then_else_}
+use Rattle.plan.specs.Limits.{mostPoints}
+use Rattle.plan.specs.APlan.{point, ordinary, wait, is, linkTo, gapOf, blank}
+use Rattle.plan.proofs.Accepted.{Rules, Accepted}
+use Rattle.plan.specs.declared.Record.{Record}
+use Rattle.board.specs.Boards.{minute}
+use Rattle.board.specs.Verdicts.{ordinaryKept, waitKept, kept, firstBroken}
+use Rattle.board.specs.Inside.{noEnd, endOf, LinksOf, keptFrom}
+use Rattle.board.specs.declared.Board.{Board}
+use Rattle.board.specs.declared.Verdict.{Verdict}
+use Rattle.board.specs.declared.Verdict.the-variants.{Kept, Broken}
+use Rattle.board.specs.declared.links.Links.{Links}
+use Rattle.board.specs.declared.links.End.{End}
+
+-- a wait names points of the plan, and its second one has a link
+module _ (rs : List Record) (ok : Accepted rs) (r : Record) (rules : Rules rs r) (w : is wait r ≡ true) where
+  wait-below : r .b < mostPoints
+  wait-below =
+      let k = eqb-true (r .kind) 4 w in
+      let n = rules .names (ne-eqb (r .kind) 1 (λ e. omega arith)) in
+      omega (arith, ok .few)
+
+  wait-end : linkTo rs (r .b) .b ≡ r .b
+  wait-end = ok .ends (r .b) (rules .wait-watched w) .1
+
+module _ (rs : List Record) (ok : Accepted rs) (l : Links) (links : LinksOf rs l) (b : Board) (i : ℕ) (h : i < length rs) (r : Record) (here : getD rs i blank ≡ r) where
+  abbrev end : End
+  end = getD (l .ends) (r .b % mostPoints) noEnd
+
+  rules : Rules rs r
+  rules = rw here at (ok .each i h)
+
+  by-kind : (o w : Bool) → is wait r ≡ w
+      → (if o then ordinaryKept b r else if w then leb (minute b (end .from) + min (gapOf (r .first) .up) (minute b (r .b) - minute b (end .from))) (minute b (r .a)) else true)
+      ≡ (if o then ordinaryKept b r else if w then waitKept b (linkTo rs (r .b)) r else true)
+  by-kind true w e = refl
+  by-kind false false e = refl
+  by-kind false true e =
+      let m = wait-below rs ok r rules e in
+      let p : r .b % mostPoints ≡ r .b = omega arith in
+      rw (p, links .ends (r .b) m, wait-end rs ok r rules e)
+
+  -- a record is judged as the rules say
+  pub kept-from : keptFrom b (getD (l .ends) (r .b % mostPoints) noEnd .from) r ≡ kept rs b r
+  kept-from = by-kind (is ordinary r) (is wait r) refl
+
+module _ (rs : List Record) (b : Board) (i : ℕ) where
+  pub broken-here : i < length rs → kept rs b (getD rs i blank) ≡ false → Broken i ≡ firstBroken rs b i (drop i rs)
+  unfolding firstBroken
+  broken-here h e = rw (drop-cons rs i blank h, e)
+
+  pub broken-turn : i < length rs → kept rs b (getD rs i blank) ≡ true → firstBroken rs b i (drop i rs) ≡ firstBroken rs b (i + 1) (drop (i + 1) rs)
+  unfolding firstBroken
+  broken-turn h e = rw (drop-cons rs i blank h, e, add-one i)
+
+  pub broken-end : length rs ≤ i → Kept ≡ firstBroken rs b i (drop i rs)
+  unfolding firstBroken
+  broken-end h = rw (drop-of-length-le rs h)

@@ -1,0 +1,11 @@
+-- The modules of proofs that belong to no one function. Other crates cite the ones that are `pub`.
+mod Cases
+pub mod Records
+mod Linking
+mod Walks
+mod Broken
+pub mod Theorems
+mod Minus
+mod Windowing
+mod Opening
+mod Replying

@@ -1,0 +1,70 @@
+-- The records that a loop over a plan passes, one after the other: how many there are, which one is next, and what one
+-- record more changes. Assumes nothing.
+use mathlib.Core.Path.{_≡_, refl, sym, ap, _∙_}
+use mathlib.Core.Bool.{Bool, true, false, _&&_, _||_}
+use mathlib.Core.List.{List, [], _∷_, _++_}
+use Prim.Native.Nat.{ℕ, zero, suc, _+_, _≤_, _<_, min}
+use native.Mathlib.Omega.{arith}
+use native.Mathlib.Numerals.{add-one}
+use lib.ListN.{length, take, drop, getD, length-take, drop-of-length-le}
+use lib.Seq.{take-suc, drop-cons, getD-take, take-all}
+use Rattle.plan.specs.Choice.{if_then_else_}
+use Rattle.plan.specs.Limits.{mostRecords}
+use Rattle.plan.specs.APlan.{blank, some, firstThat, recordsOf}
+use Rattle.plan.specs.declared.Record.{Record}
+use Rattle.plan.specs.declared.Plan.{Plan}
+
+module _ (p : Plan) (room : length (p .records) ≡ mostRecords) where
+  -- a plan has as many records as its count says and its room holds
+  pub used-records : length (recordsOf p) ≡ min (p .count) mostRecords
+  used-records = rw room at (length-take (p .count) (p .records))
+
+  pub record-at : (i : ℕ) → i < min (p .count) mostRecords → getD (recordsOf p) i blank ≡ getD (p .records) i blank
+  record-at i h = getD-take (p .count) (p .records) i blank (omega arith)
+
+or-swap : (a b c : Bool) → (a || (b || c)) ≡ (b || (a || c))
+or-swap true true c = refl
+or-swap true false c = refl
+or-swap false true c = refl
+or-swap false false c = refl
+
+-- one of the records is so, with a record more
+pub some-snoc : (so : Record → Bool) (rs : List Record) (r : Record) → some so (rs ++ (r ∷ [])) ≡ (so r || some so rs)
+unfolding some
+some-snoc so [] r = refl
+some-snoc so (x ∷ rs) r = rw (some-snoc so rs r) (or-swap (so x) (so r) (some so rs))
+
+-- a record that is not so changes nothing for the first that is, and neither does one after another that is so
+pub first-not : (so : Record → Bool) (rs : List Record) (r : Record) → so r ≡ false → firstThat so (rs ++ (r ∷ [])) ≡ firstThat so rs
+unfolding firstThat
+first-not so [] r h = rw h
+first-not so (x ∷ rs) r h = rw (first-not so rs r h)
+
+pub first-old : (so : Record → Bool) (rs : List Record) (r : Record) → some so rs ≡ true → firstThat so (rs ++ (r ∷ [])) ≡ firstThat so rs
+unfolding firstThat some
+first-old so [] r h = absurd (let z : _≡_ {A = ℕ} 0 1 = cc in omega arith)
+first-old so (x ∷ rs) r h = by-test (so x) h (first-old so rs r)
+  where
+    by-test : (b : Bool) → (b || some so rs) ≡ true → (some so rs ≡ true → firstThat so (rs ++ (r ∷ [])) ≡ firstThat so rs)
+        → (if b then x else firstThat so (rs ++ (r ∷ []))) ≡ (if b then x else firstThat so rs)
+    by-test true h f = refl
+    by-test false h f = f h
+
+-- one that is so is the first where none was before
+pub first-so : (so : Record → Bool) (rs : List Record) (r : Record) → some so rs ≡ false → so r ≡ true → firstThat so (rs ++ (r ∷ [])) ≡ r
+unfolding firstThat some
+first-so so [] r h e = rw e
+first-so so (x ∷ rs) r h e = by-test (so x) h (first-so so rs r)
+  where
+    by-test : (b : Bool) → (b || some so rs) ≡ false → (some so rs ≡ false → so r ≡ true → firstThat so (rs ++ (r ∷ [])) ≡ r)
+        → (if b then x else firstThat so (rs ++ (r ∷ []))) ≡ r
+    by-test true h f = absurd (let z : _≡_ {A = ℕ} 0 1 = cc in omega arith)
+    by-test false h f = f h e
+
+-- the first i + 1 records, and all of them
+module _ (rs : List Record) (i : ℕ) where
+  pub one-more : i < length rs → take (i + 1) rs ≡ take i rs ++ (getD rs i blank ∷ [])
+  one-more h = rw (add-one i, take-suc rs i blank h)
+
+  pub all-of : length rs ≤ i → take i rs ≡ rs
+  all-of h = take-all i rs h

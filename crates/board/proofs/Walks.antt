@@ -1,0 +1,74 @@
+-- What one turn does for a test of every point, of every record and of every member of a set, for the largest minute of
+-- some points, and for a board that some points are marked on. Assumes nothing.
+use mathlib.Core.Path.{_≡_, refl, sym, ap, _∙_}
+use mathlib.Core.Bool.{Bool, true, false, _&&_}
+use mathlib.Core.List.{List, [], _∷_, _++_}
+use Prim.Native.Nat.{ℕ, zero, suc, _+_, _-_, _≤_, _<_, max}
+use native.Mathlib.Omega.{arith}
+use native.Mathlib.Numerals.{add-one}
+use lib.ListN.{length, drop, getD, set, drop-of-length-le}
+use lib.Seq.{drop-cons}
+use Rattle.points.specs.Sets.{membersOf, from, every}
+use Rattle.points.specs.Laws.{Turn, members-empty}
+use Rattle.plan.specs.APlan.{blank}
+use Rattle.plan.specs.declared.Record.{Record}
+use Rattle.board.specs.Boards.{minute, each, largest}
+use Rattle.board.specs.declared.Board.{Board}
+
+-- the points from i up to n
+module _ (test : ℕ → Bool) (n i : ℕ) where
+  abbrev to-go : Bool
+  to-go = every test (from i (n - i))
+
+  more-to-go : i < n → n - i ≡ suc (n - (i + 1))
+  more-to-go h = omega arith
+
+  pub points-fails : i < n → test i ≡ false → false ≡ to-go
+  unfolding every from
+  points-fails h e = rw (more-to-go h, e)
+
+  pub points-turn : i < n → test i ≡ true → to-go ≡ every test (from (i + 1) (n - (i + 1)))
+  unfolding every from
+  points-turn h e = rw (more-to-go h, e, add-one i)
+
+  pub points-end : n ≤ i → true ≡ to-go
+  unfolding every from
+  points-end h = let z : n - i ≡ 0 = omega arith in rw z
+
+-- the records from place i on
+module _ (so : Record → Bool) (rs : List Record) (i : ℕ) where
+  pub records-fails : i < length rs → so (getD rs i blank) ≡ false → false ≡ each so (drop i rs)
+  unfolding each
+  records-fails h e = rw (drop-cons rs i blank h, e)
+
+  pub records-turn : i < length rs → so (getD rs i blank) ≡ true → each so (drop i rs) ≡ each so (drop (i + 1) rs)
+  unfolding each
+  records-turn h e = rw (drop-cons rs i blank h, e, add-one i)
+
+  pub records-end : length rs ≤ i → true ≡ each so (drop i rs)
+  unfolding each
+  records-end h = rw (drop-of-length-le rs h)
+
+-- the members of a set
+module _ (test : ℕ → Bool) (s p rest : ℕ) (t : Turn s p rest) where
+  pub members-fails : test p ≡ false → false ≡ every test (membersOf s)
+  unfolding every
+  members-fails e = rw (t .members, e)
+
+  pub members-turn : test p ≡ true → every test (membersOf s) ≡ every test (membersOf rest)
+  unfolding every
+  members-turn e = rw (t .members, e)
+
+pub members-end : (test : ℕ → Bool) → true ≡ every test (membersOf 0)
+unfolding every
+members-end test = rw members-empty
+
+-- the largest minute
+module _ (b : Board) where
+  pub largest-turn : (s p rest : ℕ) → Turn s p rest → (n : ℕ) → max n (largest b (membersOf s)) ≡ max (max n (minute b p)) (largest b (membersOf rest))
+  unfolding largest
+  largest-turn s p rest t n = rw (t .members) (omega arith)
+
+  pub largest-end : (n : ℕ) → n ≡ max n (largest b (membersOf 0))
+  unfolding largest
+  largest-end n = rw members-empty (omega arith)

@@ -1,0 +1,63 @@
+-- `board::sound::last_done` meets its contract. Assumes nothing.
+use borrow.Author.Needs.{needs}
+use native.Mathlib.Omega.{arith}
+use mathlib.Core.Path.{_≡_, refl, sym, ap, _∙_}
+use mathlib.Core.Logic.{⊎-elim}
+use Prim.Native.Nat.{ℕ, _<_, _^_, max}
+use Rattle.points.specs.Sets.{countOf, membersOf}
+use Rattle.points.specs.Laws.{turn}
+use Rattle.board.specs.Boards.{minute, largest}
+use Rattle.board.proofs.Walks.{largest-turn, largest-end}
+use Rattle.board.proofs.sound.last_done.Statement.{statement}
+use Rattle.board.proofs.sound.last_done.Tie as tie
+
+abbrev Inv-loop : tie.InvT-loop
+Inv-loop board last₀ rest₀ last rest =
+    (rest < 2 ^ 32) × (max last (largest board (membersOf rest)) ≡ largest board (membersOf (board .done)))
+
+abbrev μ-loop : tie.MeasureT-loop
+μ-loop board last₀ rest₀ last rest = countOf rest
+
+loop-holds : tie.Need-loop-holds Inv-loop μ-loop
+loop-holds c =
+    let g = c .good .0 .1 .1 .1 .0 .1 in
+    (omega arith, omega arith)
+
+first-requires : tie.Need-first-requires Inv-loop μ-loop
+first-requires c κs = search needs
+
+minute-of-requires : tie.Need-minute-of-requires Inv-loop μ-loop
+minute-of-requires c κs = search needs
+
+without-requires : tie.Need-without-requires Inv-loop μ-loop
+without-requires c κs = search needs
+
+loop-less : tie.Need-loop-less Inv-loop μ-loop
+loop-less c =
+    let i = c .before .before .before .before .before .loop .inv in
+    let t = turn _ _ _ (omega arith) (i .0) (c .before .before .before .first .ensures) (c .without .ensures) in
+    omega arith
+
+loop-again : tie.Need-loop-again Inv-loop μ-loop
+loop-again c =
+    let i = c .before .before .before .before .before .loop .inv in
+    let t = turn _ _ _ (omega arith) (i .0) (c .before .before .before .first .ensures) (c .without .ensures) in
+    let m : c .before .if1 .last ≡ max (c .before .before .before .before .before .loop .last) (c .before .before .minute-of .result) = ⊎-elim (λ w. omega arith) (λ w. omega arith) (c .before .if1 .came) in
+    (t .fits, rw (m, c .before .before .minute-of .ensures) (sym (largest-turn _ _ _ _ t _)) ∙ i .1)
+
+returns : tie.Need-returns Inv-loop μ-loop
+returns c = largest-end _ _ ∙ rw (c .loop-test .left) at (c .before .loop .inv .1)
+
+pub last-done-spec : {M : Type 1} → statement M
+last-done-spec =
+    tie.close
+    (tie.spec
+    Inv-loop
+    μ-loop
+    loop-holds
+    first-requires
+    minute-of-requires
+    without-requires
+    loop-less
+    loop-again
+    returns)

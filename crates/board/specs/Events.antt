@@ -1,0 +1,95 @@
+-- Document 01, "Events": the sixteen bytes of an event, the numbers 21 to 30 in order, and the board after an event that
+-- is taken. rs are the plan's records, b the board before the event, s the event's bytes. Assumes nothing.
+use mathlib.Core.Bool.{Bool, true, false, not, _&&_, _||_}
+use mathlib.Core.List.{List, [], _∷_, _++_}
+use Prim.Native.Nat.{ℕ, _+_, _-_}
+use lib.Dec.{eqb, ltb, leb}
+use lib.ListN.{length, getD, set}
+use Rattle.points.specs.Sets.{member, membersOf, withOf, belowOf, subsetOf, every}
+use Rattle.plan.specs.Choice.{if_then_else_}
+use Rattle.plan.specs.Limits.{recordBytes}
+use Rattle.plan.specs.APlan.{points, watched, linkTo, recordsOf}
+use Rattle.plan.specs.PlanFile.{wordAt}
+use Rattle.plan.specs.ReplyNumbers.{checkOf}
+use Rattle.plan.specs.declared.Record.{Record}
+use Rattle.plan.specs.declared.Plan.{Plan}
+use Rattle.board.specs.Boards.{sound, minute, running, shortest, longest, each}
+use Rattle.board.specs.Windows.{isOpen, low, someOpen}
+use Rattle.board.specs.Replies.{finished, stuck, latest}
+use Rattle.board.specs.declared.Board.{Board}
+use Rattle.board.specs.declared.Taken.{Taken}
+
+-- 0..4 the minute; 4 the foreman's point or 255 for none; 8..12 the set of watched points
+abbrev pub eventMinute : List ℕ → ℕ
+eventMinute s = wordAt s 0
+
+abbrev pub eventPoint : List ℕ → ℕ
+eventPoint s = getD s 4 0
+
+abbrev pub noPoint : ℕ
+noPoint = 255
+
+abbrev pub eventSet : List ℕ → ℕ
+eventSet s = wordAt s 8
+
+-- 23: sixteen bytes, reserved bytes zero, every point in the plan, and at least one point
+abbrev pub wellFormed : List Record → List ℕ → Bool
+wellFormed rs s =
+    eqb (length s) recordBytes
+    && ((eqb (getD s 5 0) 0 && (eqb (getD s 6 0) 0 && (eqb (getD s 7 0) 0 && eqb (wordAt s 12) 0)))
+    && ((eqb (eventPoint s) noPoint || ltb (eventPoint s) (points rs))
+    && (subsetOf (eventSet s) (belowOf (points rs))
+    && not (eqb (eventPoint s) noPoint && eqb (eventSet s) 0))))
+
+-- 25: the point c ends a running link
+abbrev pub endsRunning : List Record → Board → ℕ → Bool
+endsRunning rs b c = watched rs c && running b (linkTo rs c)
+
+-- 26: at minute t the link that ends at c is within its x to y
+abbrev pub inTime : List Record → Board → ℕ → ℕ → Bool
+inTime rs b t c =
+    leb (minute b (linkTo rs c .a) + shortest (linkTo rs c)) t && leb t (minute b (linkTo rs c .a) + longest (linkTo rs c))
+
+-- 27: the link l is not running, or ends in the set, or its y has not run out before minute t
+abbrev pub notLate : Board → ℕ → ℕ → Record → Bool
+notLate b t ended l = not (running b l) || (member ended (l .b) || leb t (minute b (l .a) + longest l))
+
+-- the numbers in order, 0 where the event is taken; windows are those of the board before the event
+unfoldable pub eventNumber : List Record → Board → List ℕ → ℕ
+eventNumber rs b s =
+    if finished rs b then 21
+    else if stuck rs b then 22
+    else if not (wellFormed rs s) then 23
+    else if ltb (eventMinute s) (b .clock) then 24
+    else if not (every (endsRunning rs b) (membersOf (eventSet s))) then 25
+    else if not (every (inTime rs b (eventMinute s)) (membersOf (eventSet s))) then 26
+    else if not (each (notLate b (eventMinute s) (eventSet s)) rs) then 27
+    else if not (eqb (eventPoint s) noPoint || isOpen rs b (eventPoint s)) then 28
+    else if not (eqb (eventPoint s) noPoint || leb (low rs b (eventPoint s)) (eventMinute s)) then 29
+    else if someOpen rs b && ltb (latest rs b) (eventMinute s) then 30
+    else 0
+
+-- the points of an event
+abbrev pub eventPoints : List ℕ → List ℕ
+eventPoints s = membersOf (eventSet s) ++ (if eqb (eventPoint s) noPoint then [] else (eventPoint s ∷ []))
+
+-- some points done at minute t
+unfoldable pub markAll : ℕ → List ℕ → Board → Board
+markAll t [] b = b
+markAll t (p ∷ ps) b = markAll t ps (record { clock = b .clock; done = withOf (b .done) p; minutes = set (b .minutes) p t })
+
+-- the board after the event: all its points done at its minute, which becomes the clock
+unfoldable pub boardAfter : Board → List ℕ → Board
+boardAfter b s =
+    markAll (eventMinute s) (eventPoints s) (record { clock = eventMinute s; done = b .done; minutes = b .minutes })
+
+abbrev pub taken : ℕ → ℕ → Board → Taken
+taken n i b = record { number = n; place = i; board = b }
+
+-- the plan's own refusal, then 20, then 21 to 30; a refusal hands the same board back
+unfoldable pub takeOf : Plan → Board → List ℕ → Taken
+takeOf p b s =
+    if not (eqb (checkOf p .number) 0) then taken (checkOf p .number) (checkOf p .place) b
+    else if not (sound (recordsOf p) b) then taken 20 0 b
+    else if not (eqb (eventNumber (recordsOf p) b s) 0) then taken (eventNumber (recordsOf p) b s) 0 b
+    else taken 0 0 (boardAfter b s)

@@ -1,9 +1,11 @@
 // A sheet by value: the plan part as far as it has come, then the plan and the board, and the line that the last record
 // gave.
+ghost use Rattle.io.specs.Counts.{Counts};
 use board::Board;
 use plan::MOST_RECORDS;
 use plan::Plan;
 use plan::RECORD_BYTES;
+use std::num::wrapping_add_u64;
 use text::Line;
 
 // Still in the plan part; among the events; over, since the plan is refused.
@@ -68,4 +70,98 @@ fn shown(length: u64) -> usize {
     } else {
         most + (length % RECORD_BYTES as u64) as usize
     }
+}
+
+impl Sheet {
+    // Nothing has come yet.
+    pub fn new() -> Sheet {
+        let reading = plan::read(b"");
+        let plan = reading.plan;
+        let board = board::fresh();
+        let line = text::blank();
+        Sheet {
+            stage: PLANNING,
+            length: 0,
+            events: 0,
+            tail: 0,
+            plan: plan,
+            board: board,
+            line: line,
+        }
+    }
+
+    // The plan part has ended: its plan, or the line that refuses it.
+    fn begun(self, file: &[u8]) -> Sheet {
+        let mut sheet = self;
+        let n = within(shown(self.length), file);
+        let reading = plan::read(&file[..n]);
+        if reading.number == plan::ACCEPTED {
+            let plan = reading.plan;
+            sheet.plan = plan;
+            sheet.stage = PLAYING;
+        } else {
+            let line = text::plan_line(reading.number, reading.place);
+            sheet.line = line;
+            sheet.stage = OVER;
+        }
+        sheet
+    }
+
+    // A record of the plan part, or the one that ends it.
+    fn planned(self, record: &[u8], file: &mut [u8]) -> Sheet {
+        if is_mark(record) {
+            return self.begun(file);
+        }
+        keep(file, self.length, record);
+        let mut sheet = self;
+        sheet.length = wrapping_add_u64(self.length, RECORD_BYTES as u64);
+        sheet
+    }
+
+    // An event.
+    fn played(self, record: &[u8]) -> Sheet {
+        let mut sheet = self;
+        let plan = self.plan;
+        let before = self.board;
+        let taken = before.take(plan, record);
+        let after = taken.board;
+        let line = text::event_line(self.events, taken.number, after.clock, points::count(after.done));
+        sheet.board = after;
+        sheet.line = line;
+        sheet.events = wrapping_add_u64(self.events, 1);
+        sheet
+    }
+
+    // A record more.
+    pub fn next(self, record: &[u8], file: &mut [u8]) -> Sheet {
+        let mut sheet = self;
+        let line = text::blank();
+        sheet.line = line;
+        let stage = self.stage;
+        match stage {
+            0 => sheet.planned(record, file),
+            1 => sheet.played(record),
+            2..=255 => sheet,
+        }
+    }
+
+    // The input has ended, with so many bytes of an unfinished record.
+    pub fn ended(self, left: u64, file: &mut [u8]) -> Sheet {
+        let mut sheet = self;
+        let line = text::blank();
+        sheet.line = line;
+        if self.stage == PLANNING {
+            sheet.length = wrapping_add_u64(self.length, left);
+            return sheet.begun(file);
+        }
+        sheet.tail = left;
+        sheet
+    }
+}
+
+// So many bytes of a file, or all that it has.
+fn within(n: usize, file: &[u8]) -> usize
+    ensures { λ r. ⌜ Counts r (now (file .entry)) ⌝ }
+{
+    if n < file.len() { n } else { file.len() }
 }

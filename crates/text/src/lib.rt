@@ -72,7 +72,7 @@ pub enum Piece {
 }
 
 // An empty line.
-fn blank() -> Line
+pub fn blank() -> Line
     ensures { λ l. ⌜ l ≡ lineOf [] ⌝ }
 {
     let bytes = [0u8; ROOM];

@@ -9,3 +9,4 @@ mod Minus
 mod Windowing
 mod Opening
 mod Replying
+mod Taking

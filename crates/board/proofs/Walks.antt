@@ -7,12 +7,13 @@ use Prim.Native.Nat.{ℕ, zero, suc, _+_, _-_, _≤_, _<_, max}
 use native.Mathlib.Omega.{arith}
 use native.Mathlib.Numerals.{add-one}
 use lib.ListN.{length, drop, getD, set, drop-of-length-le}
-use lib.Seq.{drop-cons}
-use Rattle.points.specs.Sets.{membersOf, from, every}
-use Rattle.points.specs.Laws.{Turn, members-empty}
+use lib.Seq.{drop-cons, set-out}
+use Rattle.points.specs.Sets.{membersOf, withOf, from, every}
+use Rattle.points.specs.Laws.{Turn, members-empty, with-past}
 use Rattle.plan.specs.APlan.{blank}
 use Rattle.plan.specs.declared.Record.{Record}
 use Rattle.board.specs.Boards.{minute, each, largest}
+use Rattle.board.specs.Events.{markAll}
 use Rattle.board.specs.declared.Board.{Board}
 
 -- the points from i up to n
@@ -72,3 +73,29 @@ module _ (b : Board) where
   pub largest-end : (n : ℕ) → n ≡ max n (largest b (membersOf 0))
   unfolding largest
   largest-end n = rw members-empty (omega arith)
+
+-- points that are marked
+abbrev marked : ℕ → ℕ → Board → Board
+marked t p b = record { clock = b .clock; done = withOf (b .done) p; minutes = set (b .minutes) p t }
+
+module _ (t : ℕ) where
+  pub marks-turn : (s p rest : ℕ) → Turn s p rest → (b : Board) → markAll t (membersOf rest) (marked t p b) ≡ markAll t (membersOf s) b
+  unfolding markAll
+  marks-turn s p rest u b = rw (u .members)
+
+  pub marks-end : (b : Board) → b ≡ markAll t (membersOf 0) b
+  unfolding markAll
+  marks-end b = rw members-empty
+
+  pub marks-append : (ps qs : List ℕ) (b : Board) → markAll t qs (markAll t ps b) ≡ markAll t (ps ++ qs) b
+  unfolding markAll
+  marks-append [] qs b = refl
+  marks-append (p ∷ ps) qs b = marks-append ps qs (marked t p b)
+
+  pub mark-one : (p : ℕ) (b : Board) → marked t p b ≡ markAll t (p ∷ []) b
+  unfolding markAll
+  mark-one p b = refl
+
+  pub mark-past : (p : ℕ) (b : Board) → length (b .minutes) ≤ p → 32 ≤ p → b ≡ markAll t (p ∷ []) b
+  unfolding markAll
+  mark-past p b h l = rw (with-past (b .done) p l, set-out (b .minutes) p t h)

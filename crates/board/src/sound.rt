@@ -41,7 +41,7 @@ pub(crate) fn minute_of(board: Board, p: u8) -> u32
 }
 
 // The set of the first n points, of which there are 32 at most.
-fn first_points(n: u32) -> u32
+pub(crate) fn first_points(n: u32) -> u32
     ensures { λ s. ⌜ s ≡ belowOf n ⌝ }
 {
     if n < MOST as u32 {

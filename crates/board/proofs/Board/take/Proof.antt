@@ -1,0 +1,60 @@
+-- `board::Board::take` meets its contract. Assumes nothing.
+use native.Mathlib.Omega.{arith}
+use borrow.Author.Needs.{needs}
+use mathlib.Core.Path.{_≡_, refl, sym, ap, _∙_}
+use borrow.Author.Tests.{eq-eqb, ne-eqb, not-true, not-false}
+use Rattle.board.specs.Events.{takeOf}
+use Rattle.board.specs.Inside.{takenNext}
+use Rattle.board.proofs.Board.take.Statement.{statement}
+use Rattle.board.proofs.Board.take.Tie as tie
+
+check-requires : tie.Need-check-requires
+check-requires c κs = search needs
+
+answer-requires : tie.Need-answer-requires
+answer-requires c κs = search needs
+
+returns : tie.Need-returns
+unfolding takeOf
+returns c =
+    let e = rw (c .before .before .before .check .ensures) at (ne-eqb _ _ (c .before .if1 .taken)) in
+    rw e (rw (c .before .before .before .check .ensures) at (c .answer .ensures))
+
+is-sound-requires : tie.Need-is-sound-requires
+is-sound-requires c κs = search needs
+
+answer-requires-2 : tie.Need-answer-requires-2
+answer-requires-2 c κs = search needs
+
+returns-2 : tie.Need-returns-2
+unfolding takeOf
+returns-2 c =
+    let e = rw (c .before .before .before .before .before .check .ensures) at (eq-eqb _ _ (c .before .before .before .if1 .left)) in
+    rw (e, sym (c .before .before .is-sound .ensures) ∙ not-true _ (c .before .if2 .taken)) (c .answer2 .ensures)
+
+links-of-requires : tie.Need-links-of-requires
+links-of-requires c κs = search needs
+
+take-next-requires : tie.Need-take-next-requires
+take-next-requires c κs =
+    record { accepted = rw (c .before .before .before .before .before .check .ensures) at (c .before .before .before .if1 .left); sound = sym (c .before .before .is-sound .ensures) ∙ not-false _ (c .before .if2 .left); links = c .links-of .ensures }
+
+returns-3 : tie.Need-returns-3
+unfolding takeOf takenNext
+returns-3 c =
+    let e = rw (c .before .before .before .before .before .before .check .ensures) at (eq-eqb _ _ (c .before .before .before .before .if1 .left)) in
+    rw (e, sym (c .before .before .before .is-sound .ensures) ∙ not-false _ (c .before .before .if2 .left)) (c .take-next .ensures)
+
+pub take-spec : {M : Type 1} → statement M
+take-spec =
+    tie.close
+    (tie.spec
+    check-requires
+    answer-requires
+    returns
+    is-sound-requires
+    answer-requires-2
+    returns-2
+    links-of-requires
+    take-next-requires
+    returns-3)

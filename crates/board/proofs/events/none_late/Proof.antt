@@ -1,0 +1,89 @@
+-- `board::events::none_late` meets its contract. Assumes nothing.
+use borrow.Author.Needs.{needs}
+use native.Mathlib.Omega.{arith}
+use mathlib.Core.Path.{_≡_, refl, sym, ap, _∙_}
+use borrow.Author.Tests.{not-true, not-false}
+use Prim.Native.Nat.{ℕ, _≤_, _<_, _-_, min}
+use lib.ListN.{length, drop, length-map}
+use Rattle.plan.specs.Limits.{mostRecords}
+use Rattle.plan.specs.APlan.{recordsOf}
+use Rattle.board.specs.Boards.{each}
+use Rattle.board.specs.Events.{notLate}
+use Rattle.board.proofs.Records.{used-records, record-at}
+use Rattle.board.proofs.Walks.{records-fails, records-turn, records-end}
+use Rattle.board.proofs.events.none_late.Statement.{statement}
+use Rattle.board.proofs.events.none_late.Tie as tie
+
+abbrev Inv-loop : tie.InvT-loop
+Inv-loop board t set plan n i₀ i =
+    (i ≤ n) × (n ≡ min (plan .count) mostRecords) × (length (plan .records) ≡ mostRecords) × (each (notLate board t set) (drop i (recordsOf plan)) ≡ each (notLate board t set) (recordsOf plan))
+
+abbrev μ-loop : tie.MeasureT-loop
+μ-loop board t set plan n i₀ i = n - i
+
+used-requires : tie.Need-used-requires Inv-loop μ-loop
+used-requires c κs = search needs
+
+loop-holds : tie.Need-loop-holds Inv-loop μ-loop
+loop-holds c = (omega arith, c .used .ensures, rw length-map at (c .before .good .0 .1 .1 .1 .0 .1 .0 .1), refl)
+
+mul-r : tie.Need-mul-r Inv-loop μ-loop
+mul-r c = search needs
+
+element-copy-out-r : tie.Need-element-copy-out-r Inv-loop μ-loop
+element-copy-out-r c = search needs
+
+not-late-requires : tie.Need-not-late-requires Inv-loop μ-loop
+not-late-requires c κs = search needs
+
+returns : tie.Need-returns Inv-loop μ-loop
+returns c =
+    let a = c .before .before .before .before .before .before .args in
+    let i = c .before .before .before .before .loop .inv in
+    let k = c .before .before .before .before .loop .i in
+    let h : k < min (a .t1 .count) mostRecords = omega (arith, c .before .before .before .loop-test .taken, i .1) in
+    let n = used-records (a .t1) (i .2) in
+    let r = record-at (a .t1) (i .2) k h in
+    let f = sym (c .before .not-late .ensures) ∙ not-true _ (c .if1 .taken) in
+    records-fails (notLate (a .board) (a .t) (a .set)) (recordsOf (a .t1)) k (omega (arith, n)) (rw r f) ∙ i .3
+
+add-i : tie.Need-add-i Inv-loop μ-loop
+add-i c = search needs
+
+loop-less : tie.Need-loop-less Inv-loop μ-loop
+loop-less c = search needs
+
+loop-again : tie.Need-loop-again Inv-loop μ-loop
+loop-again c =
+    let a = c .before .before .before .before .before .before .args in
+    let i = c .before .before .before .before .loop .inv in
+    let k = c .before .before .before .before .loop .i in
+    let h : k < min (a .t1 .count) mostRecords = omega (arith, c .before .before .before .loop-test .taken, i .1) in
+    let n = used-records (a .t1) (i .2) in
+    let r = record-at (a .t1) (i .2) k h in
+    let f = sym (c .before .not-late .ensures) ∙ not-false _ (c .if1 .left) in
+    (omega arith, i .1, i .2, sym (records-turn (notLate (a .board) (a .t) (a .set)) (recordsOf (a .t1)) k (omega (arith, n)) (rw r f)) ∙ i .3)
+
+returns-2 : tie.Need-returns-2 Inv-loop μ-loop
+returns-2 c =
+    let a = c .before .before .before .args in
+    let i = c .before .loop .inv in
+    let n = used-records (a .t1) (i .2) in
+    records-end (notLate (a .board) (a .t) (a .set)) (recordsOf (a .t1)) (c .before .loop .i) (omega (arith, n)) ∙ i .3
+
+pub none-late-spec : {M : Type 1} → statement M
+none-late-spec =
+    tie.close
+    (tie.spec
+    Inv-loop
+    μ-loop
+    used-requires
+    loop-holds
+    mul-r
+    element-copy-out-r
+    not-late-requires
+    returns
+    add-i
+    loop-less
+    loop-again
+    returns-2)

@@ -2,51 +2,61 @@
 // one line is written for each event, and then how the sheet ends. It is thin: reading plans, taking events, the verdict
 // and the text of each line are the libraries'. Input comes in chunks of whole records, and lines go out in large pieces,
 // so memory does not grow with the input.
+mod bytes;
 mod end;
 mod sheet;
 
+use bytes::copy_in;
+use bytes::within;
 use libc::STDIN_FILENO;
 use libc::STDOUT_FILENO;
 use sheet::Sheet;
+use std::num::wrapping_add_usize;
 use text::Line;
 
 const RECORD: usize = plan::RECORD_BYTES;
 
 // Writes out the first so many bytes.
 fn flush(lines: &[u8], length: usize) {
-    if length <= lines.len() {
-        io::write_all(STDOUT_FILENO, &lines[..length]);
-    }
+    let n = within(length, lines);
+    io::write_all(STDOUT_FILENO, &lines[..n]);
 }
 
-// A line behind the lines that wait to be written; where they would not fit, those are written first. Answers how many
+// Whether another line fits behind so many bytes.
+fn fits(lines: &[u8], waiting: usize) -> bool {
+    if lines.len() < waiting {
+        return false;
+    }
+    text::ROOM <= lines.len() - waiting
+}
+
+// A line behind so many bytes; answers how many there are then.
+fn behind(lines: &mut [u8], waiting: usize, line: Line) -> usize {
+    let bytes = line.bytes;
+    let n = within(line.len, &bytes);
+    copy_in(lines, waiting, &bytes[..n]);
+    wrapping_add_usize(waiting, n)
+}
+
+// A line behind the lines that wait to be written; where it would not fit, those are written first. Answers how many
 // bytes wait then.
 fn put(lines: &mut [u8], waiting: usize, line: Line) -> usize {
-    let mut at = waiting;
-    if lines.len() < at || lines.len() - at < text::ROOM {
+    if fits(lines, waiting) {
+        behind(lines, waiting, line)
+    } else {
         flush(lines, waiting);
-        at = 0;
+        behind(lines, 0, line)
     }
-    let n = line.len;
-    let bytes = line.bytes;
-    let mut i: usize = 0;
-    while i < text::ROOM {
-        if i < n {
-            if at < lines.len() {
-                lines[at] = bytes[i];
-                at += 1;
-            }
-        }
-        i += 1;
-    }
-    at
 }
 
-// The whole records of a chunk, from one place on; answers how many bytes of lines wait then.
+// The sheet after some input, how many bytes of lines wait then, and whether there may be more input.
 struct Went {
     sheet: Sheet,
     waiting: usize,
+    more: bool,
 }
+
+// The whole records of a chunk.
 
 fn records(sheet: Sheet, chunk: &[u8], file: &mut [u8], lines: &mut [u8], waiting: usize) -> Went {
     let mut now = sheet;
@@ -62,6 +72,23 @@ fn records(sheet: Sheet, chunk: &[u8], file: &mut [u8], lines: &mut [u8], waitin
     Went {
         sheet: now,
         waiting: wait,
+        more: true,
+    }
+}
+
+// A chunk of input; the last one is not full.
+fn turn(sheet: Sheet, chunk: &mut [u8], file: &mut [u8], lines: &mut [u8], waiting: usize) -> Went {
+    let n = io::read_full(STDIN_FILENO, chunk);
+    let went = records(sheet, &chunk[..n], file, lines, waiting);
+    if n < chunk.len() {
+        let now = went.sheet;
+        Went {
+            sheet: now.ended((n % RECORD) as u64, file),
+            waiting: went.waiting,
+            more: false,
+        }
+    } else {
+        went
     }
 }
 
@@ -76,16 +103,13 @@ fn main() {
     let mut waiting: usize = 0;
     let mut turns = u64::MAX;
     while turns > 0 {
-        let n = io::read_full(STDIN_FILENO, chunk);
-        let went = records(sheet, &chunk[..n], file, lines, waiting);
+        let went = turn(sheet, chunk, file, lines, waiting);
         sheet = went.sheet;
         waiting = went.waiting;
-        if n < chunk.len() {
-            sheet = sheet.ended((n % RECORD) as u64, file);
-            turns = 0;
-        } else {
-            turns -= 1;
+        if !went.more {
+            break;
         }
+        turns -= 1;
     }
     let line = sheet.line;
     waiting = put(lines, waiting, line);

@@ -1,6 +1,7 @@
 // A sheet by value: the plan part as far as it has come, then the plan and the board, and the line that the last record
 // gave.
-ghost use Rattle.io.specs.Counts.{Counts};
+use crate::bytes::copy_in;
+use crate::bytes::within;
 use board::Board;
 use plan::MOST_RECORDS;
 use plan::Plan;
@@ -49,15 +50,8 @@ fn is_mark(record: &[u8]) -> bool {
 
 // A record behind the plan part, as far as there is room.
 fn keep(file: &mut [u8], length: u64, record: &[u8]) {
-    let mut i: usize = 0;
-    while i < record.len() {
-        if length < FILE as u64 {
-            let at = length as usize + i;
-            if at < file.len() {
-                file[at] = record[i];
-            }
-        }
-        i += 1;
+    if length < FILE as u64 {
+        copy_in(file, length as usize, record);
     }
 }
 
@@ -125,7 +119,12 @@ impl Sheet {
         let before = self.board;
         let taken = before.take(plan, record);
         let after = taken.board;
-        let line = text::event_line(self.events, taken.number, after.clock, points::count(after.done));
+        let line = text::event_line(
+            self.events,
+            taken.number,
+            after.clock,
+            points::count(after.done),
+        );
         sheet.board = after;
         sheet.line = line;
         sheet.events = wrapping_add_u64(self.events, 1);
@@ -157,11 +156,4 @@ impl Sheet {
         sheet.tail = left;
         sheet
     }
-}
-
-// So many bytes of a file, or all that it has.
-fn within(n: usize, file: &[u8]) -> usize
-    ensures { λ r. ⌜ Counts r (now (file .entry)) ⌝ }
-{
-    if n < file.len() { n } else { file.len() }
 }

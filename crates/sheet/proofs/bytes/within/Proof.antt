@@ -1,8 +1,8 @@
--- `sheet::sheet::within` answers a count of the buffer's bytes. Assumes nothing.
+-- `sheet::bytes::within` answers a count of the buffer's bytes. Assumes nothing.
 use native.Mathlib.Omega.{arith}
 use Rattle.io.proofs.Counting.{counts}
-use Rattle.sheet.proofs.sheet.within.Statement.{statement}
-use Rattle.sheet.proofs.sheet.within.Tie as tie
+use Rattle.sheet.proofs.bytes.within.Statement.{statement}
+use Rattle.sheet.proofs.bytes.within.Tie as tie
 
 returns : tie.Need-returns
 returns c = counts _ _ (omega arith)

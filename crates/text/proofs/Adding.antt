@@ -1,0 +1,171 @@
+-- Adding text to a line: a byte, the bytes of a word one by one, and the digits of a number. Assumes nothing.
+use mathlib.Core.Path.{_≡_, refl, sym, ap, _∙_}
+use mathlib.Core.Bool.{Bool, true, false, cond}
+use mathlib.Core.List.{List, [], _∷_, _++_, append-assoc, append-nil}
+use Prim.Native.Nat.{ℕ, zero, suc, _+_, _-_, _*_, _/_, _%_, _^_, _≤_, _<_}
+use native.Mathlib.Omega.{arith}
+use native.Mathlib.Numerals.{add-one}
+use lib.Dec.{eqb, ltb}
+use lib.ListN.{length, take, set, getD, replicate, length-append}
+use lib.Seq.{take-append-seam, set-at, append-snoc, take-suc, length-take-le}
+use borrow.Author.Tests.{lt-ltb, le-ltb, eq-eqb, ne-eqb}
+use Rattle.text.specs.Lines.{room, lineOf, digits, decimal, spelled, letters, pieceText, moreText}
+use Rattle.text.specs.Inside.{textIn, Whole, with, RoomFor}
+use Rattle.text.specs.declared.Line.{Line}
+use Rattle.text.specs.declared.Piece.{Piece}
+use Rattle.text.specs.declared.Piece.the-variants.{Name, Number}
+
+pub text-back : (ts : List ℕ) → textIn (lineOf ts) ≡ ts
+text-back ts = take-append-seam ts (replicate (room - length ts) 0)
+
+pub whole-line : (ts : List ℕ) → length ts ≤ room → Whole (lineOf ts)
+whole-line ts h = record { fits = rw (text-back ts) h; same = rw (text-back ts) }
+
+pub len-is : (l : Line) → Whole l → l .len ≡ length (textIn l)
+len-is l w = ap (λ (k : Line). k .len) (w .same)
+
+abbrev stored : Line → ℕ → Line
+stored l b = record { len = l .len + 1; bytes = set (l .bytes) (l .len) b }
+
+byte-on : (ts : List ℕ) (b : ℕ) → length ts < room → stored (lineOf ts) b ≡ lineOf (ts ++ (b ∷ []))
+byte-on ts b h =
+    let m : length (ts ++ (b ∷ [])) ≡ length ts + 1 = length-append ts (b ∷ []) in
+    let k : room - length ts ≡ suc (room - (length ts + 1)) = omega arith in
+    let rest : List ℕ = replicate (room - (length ts + 1)) 0 in
+    rw (m, k, set-at ts 0 (replicate (room - (length ts + 1)) 0) b (length ts) refl, append-snoc ts b (replicate (room - (length ts + 1)) 0))
+
+-- a byte more
+pub byte-more : (l : Line) (b : ℕ) → RoomFor l (b ∷ []) → stored l b ≡ with l (b ∷ [])
+byte-more l b r = ap (λ (k : Line). stored k b) (r .whole .same) ∙ byte-on (textIn l) b (omega (arith, r .fits))
+
+pub with-whole : (l : Line) (ts : List ℕ) → RoomFor l ts → Whole (with l ts)
+with-whole l ts r = whole-line (textIn l ++ ts) (rw (length-append (textIn l) ts) (r .fits))
+
+pub with-nothing : (l : Line) → Whole l → l ≡ with l []
+with-nothing l w = rw (append-nil (textIn l)) (w .same)
+
+-- text after text
+pub with-with : (l : Line) (ts us : List ℕ) → with (with l ts) us ≡ with l (ts ++ us)
+with-with l ts us = rw (text-back (textIn l ++ ts), append-assoc (textIn l) ts us)
+
+pub room-after : (l : Line) (ts us : List ℕ) → RoomFor l (ts ++ us) → RoomFor (with l ts) us
+room-after l ts us r =
+    let n = length-append (textIn l) ts in
+    let m = length-append ts us in
+    record {
+      whole = whole-line (textIn l ++ ts) (rw n (omega (arith, m, r .fits)));
+      fits = rw (text-back (textIn l ++ ts), n) (omega (arith, m, r .fits));
+    }
+
+pub room-first : (l : Line) (ts us : List ℕ) → RoomFor l (ts ++ us) → RoomFor l ts
+room-first l ts us r = record { whole = r .whole; fits = omega (arith, length-append ts us, r .fits) }
+
+-- on a line that has the text ts
+pub fits-on : (ts us : List ℕ) → length ts + length us ≤ room → RoomFor (lineOf ts) us
+fits-on ts us h = record { whole = whole-line ts (omega arith); fits = rw (text-back ts) h }
+
+pub on : (l : Line) (ts us : List ℕ) → l ≡ lineOf ts → with l us ≡ lineOf (ts ++ us)
+on l ts us e = ap (λ (k : Line). with k us) e ∙ rw (text-back ts)
+
+-- ---- the digits of a number
+
+-- room for more digits than there are changes nothing
+digits-short : (k n : ℕ) → n < 10 ^ suc k → digits (suc k) n ≡ digits (suc (suc k)) n
+unfolding digits
+digits-short zero n h = rw (lt-ltb n 10 h)
+digits-short (suc k) n h =
+    ap (λ (ds : List ℕ). cond (ltb n 10) [] ds ++ ((48 + n % 10) ∷ [])) (digits-short k (n / 10) (omega arith))
+
+-- one more digit, where a number has more than one
+digits-more : (k n : ℕ) → 10 ≤ n → digits (suc k) n ≡ digits k (n / 10) ++ ((48 + n % 10) ∷ [])
+unfolding digits
+digits-more k n h = rw (le-ltb n 10 h)
+
+digits-one : (k n : ℕ) → n < 10 → digits (suc k) n ≡ (48 + n) ∷ []
+unfolding digits
+digits-one k n h =
+    let e : n % 10 ≡ n = omega arith in
+    rw (lt-ltb n 10 h, e)
+
+pub one-digit : (n : ℕ) → n < 10 → decimal n ≡ (48 + n) ∷ []
+one-digit n h = digits-one 19 n h
+
+pub more-digits : (n : ℕ) → 10 ≤ n → n < 2 ^ 64 → decimal n ≡ decimal (n / 10) ++ ((48 + n % 10) ∷ [])
+more-digits n h f = digits-more 19 n h ∙ ap (λ (ds : List ℕ). ds ++ ((48 + n % 10) ∷ [])) (digits-short 18 (n / 10) (omega arith))
+
+-- a number has at most twenty digits
+digits-few : (k n : ℕ) → length (digits k n) ≤ k
+unfolding digits
+digits-few zero n = omega arith
+digits-few (suc k) n = by-test (ltb n 10) (digits-few k (n / 10))
+  where
+    by-test : (b : Bool) → length (digits k (n / 10)) ≤ k → length (cond b [] (digits k (n / 10)) ++ ((48 + n % 10) ∷ [])) ≤ suc k
+    by-test true h = omega arith
+    by-test false h = omega (arith, length-append (digits k (n / 10)) ((48 + n % 10) ∷ []))
+
+pub few-digits : (n : ℕ) → length (decimal n) ≤ 20
+few-digits n = digits-few 20 n
+
+-- ---- the letters of a word
+
+spelled-short : (k w : ℕ) → w < 256 ^ k → spelled k w ≡ spelled (suc k) w
+unfolding spelled
+spelled-short zero w h = rw (eq-eqb w 0 (omega arith))
+spelled-short (suc k) w h = ap (λ (ls : List ℕ). cond (eqb w 0) [] (w % 256 ∷ ls)) (spelled-short k (w / 256) (omega arith))
+
+spelled-more : (k w : ℕ) → (w ≡ 0 → ⊥) → spelled (suc k) w ≡ w % 256 ∷ spelled k (w / 256)
+unfolding spelled
+spelled-more k w h = rw (ne-eqb w 0 h)
+
+pub no-letter : letters 0 ≡ []
+unfolding spelled
+no-letter = refl
+
+pub more-letters : (w : ℕ) → (w ≡ 0 → ⊥) → w < 2 ^ 64 → letters w ≡ w % 256 ∷ letters (w / 256)
+more-letters w h f = spelled-more 7 w h ∙ ap (λ (ls : List ℕ). w % 256 ∷ ls) (spelled-short 7 (w / 256) (omega arith))
+
+spelled-few : (k w : ℕ) → length (spelled k w) ≤ k
+unfolding spelled
+spelled-few zero w = omega arith
+spelled-few (suc k) w = by-test (eqb w 0) (spelled-few k (w / 256))
+  where
+    by-test : (b : Bool) → length (spelled k (w / 256)) ≤ k → length (cond b [] (w % 256 ∷ spelled k (w / 256))) ≤ suc k
+    by-test true h = omega arith
+    by-test false h = omega arith
+
+-- no piece is longer than twenty
+pub few-characters : (p : Piece) → length (pieceText p) ≤ 20
+few-characters (Name w) = omega (arith, spelled-few 8 w)
+few-characters (Number n) = few-digits n
+
+-- ---- a whole line
+
+few-more : (ps : List Piece) → length (moreText ps) ≤ 21 * length ps
+unfolding moreText
+few-more [] = omega arith
+few-more (p ∷ ps) = omega (arith, length-append (32 ∷ pieceText p) (moreText ps), few-characters p, few-more ps)
+
+more-snoc : (ps : List Piece) (p : Piece) → moreText (ps ++ (p ∷ [])) ≡ moreText ps ++ (32 ∷ pieceText p)
+unfolding moreText
+more-snoc [] p = append-nil (32 ∷ pieceText p)
+more-snoc (q ∷ ps) p = rw (more-snoc ps p) (sym (append-assoc (32 ∷ pieceText q) (moreText ps) (32 ∷ pieceText p)))
+
+-- the text of the first piece and i more
+abbrev pub sofar : Piece → List Piece → ℕ → List ℕ
+sofar first more i = pieceText first ++ moreText (take i more)
+
+module _ (first : Piece) (more : List Piece) (i : ℕ) where
+  pub sofar-few : i ≤ length more → length (sofar first more i) ≤ 20 + 21 * i
+  sofar-few h =
+      omega (arith, length-append (pieceText first) (moreText (take i more)), few-characters first, few-more (take i more), length-take-le i more h)
+
+  pub sofar-more : i < length more → (sofar first more i ++ (32 ∷ [])) ++ pieceText (getD more i (Name 0)) ≡ sofar first more (i + 1)
+  sofar-more h =
+      let p = getD more i (Name 0) in
+      rw (
+        add-one i,
+        take-suc more i (Name 0) h,
+        more-snoc (take i more) (getD more i (Name 0)),
+        append-assoc (sofar first more i) (32 ∷ []) (pieceText (getD more i (Name 0))),
+        append-assoc (pieceText first) (moreText (take i more)) (32 ∷ pieceText (getD more i (Name 0))),
+      )

@@ -1,0 +1,25 @@
+-- What the functions behind the lines compute. A reader of the lines can leave this page out. Assumes nothing.
+use mathlib.Core.Path.{_≡_}
+use mathlib.Core.List.{List, _++_}
+use Prim.Native.Nat.{ℕ, _+_, _≤_}
+use lib.ListN.{length, take}
+use Rattle.text.specs.Lines.{room, lineOf}
+use Rattle.text.specs.declared.Line.{Line}
+
+-- a line's text
+abbrev pub textIn : Line → List ℕ
+textIn l = take (l .len) (l .bytes)
+
+-- the line is no longer than its room, and zero past its length
+pub record Whole (l : Line) : Type 0 where
+  pub fits : length (textIn l) ≤ room
+  pub same : l ≡ lineOf (textIn l)
+
+-- the line with some text more
+abbrev pub with : Line → List ℕ → Line
+with l ts = lineOf (textIn l ++ ts)
+
+-- there is room for some text more
+pub record RoomFor (l : Line) (ts : List ℕ) : Type 0 where
+  pub whole : Whole l
+  pub fits : length (textIn l) + length ts ≤ room

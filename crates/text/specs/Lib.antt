@@ -1,0 +1,4 @@
+-- What a reader has to believe of the lines that the programs print. No proofs are here.
+pub mod Words
+pub mod Lines
+pub mod Inside

@@ -29,7 +29,7 @@ use Rattle.board.proofs.Theorems.Taking.{Takes, opened, something-open, fresh-p
 use Rattle.network.proofs.States.{State, Change, same, fresh, still}
 use Rattle.network.proofs.States as states
 use Rattle.network.proofs.Plans.{Running, Open, Shut, by-record, by-wait, FromLow, ToH, May, offered, ends, Event, InTime}
-use Rattle.promise.specs.Nets.{Has, OrdinaryIn, LinkIn, netOf}
+use Rattle.vee.specs.PlanTest.{Has, OrdinaryIn, LinkIn, netOf}
 use Rattle.promise.specs.Plays.{leastOf}
 use Rattle.promise.proofs.Gathering.{least-of-le, least-of-at}
 use Rattle.promise.proofs.Nets.{keeps, ordinary-in, wait-in, link-of, joins, shut-from, open-from, rules-of}

@@ -30,7 +30,8 @@ use Rattle.board.proofs.Theorems.Soundness.{HeldBoard, sound-means, fresh-sound
 use Rattle.board.proofs.Theorems.Taking.{takes, event-sound, event-marks, event-more}
 use Rattle.network.proofs.Plans.{Safe}
 use Rattle.network.proofs.Safety.{safe-fresh, safe-event}
-use Rattle.promise.specs.Nets.{netOf, PassesPlan}
+use Rattle.vee.specs.PlanTest.{netOf}
+use Rattle.promise.specs.Nets.{PassesPlan}
 use Rattle.promise.specs.Runs.{Run, start, next, Promised}
 use Rattle.promise.proofs.Nets.{rules-of}
 use Rattle.promise.proofs.Boards.{saysOf, event-of}

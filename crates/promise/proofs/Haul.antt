@@ -18,7 +18,8 @@ use Rattle.network.specs.Projection as projection
 use Rattle.network.specs.Projection.{Edge}
 use Rattle.network.specs.Walks.{Walk, nil, step, Negative, NonNegative, Vee, vee}
 use Rattle.network.specs.Passing.{Shortest, Good}
-use Rattle.promise.specs.Nets.{LinkIn, WaitIn, netOf, PassesPlan}
+use Rattle.vee.specs.PlanTest.{LinkIn, WaitIn, netOf}
+use Rattle.promise.specs.Nets.{PassesPlan}
 use Rattle.promise.specs.Plays.{Players, Finishes}
 use Rattle.promise.proofs.Play.{finishes}
 

@@ -25,7 +25,8 @@ use Rattle.board.proofs.Theorems.Taking.{Takes, takes, opened, event-marks}
 use Rattle.network.specs.Projection.{InBounds}
 use Rattle.network.proofs.Plans.{Running, Agrees}
 use Rattle.network.proofs.Plays.{agrees-event}
-use Rattle.promise.specs.Nets.{netOf, PassesPlan}
+use Rattle.vee.specs.PlanTest.{netOf}
+use Rattle.promise.specs.Nets.{PassesPlan}
 use Rattle.promise.specs.Runs.{Run}
 use Rattle.promise.specs.Plays as plays
 use Rattle.promise.specs.Plays.{Event, eventBytes, CanHappen, firstEnd, endingAt, Foreman, Players, Make, choice, wait, Play, Finishes, Fixed, Lasted}

@@ -18,7 +18,7 @@ use Rattle.board.specs.Boards.{shortest, longest}
 use Rattle.board.proofs.Theorems.Each.{clash, both, either}
 use Rattle.network.proofs.States.{State, Undone, ask}
 use Rattle.network.proofs.Plans.{Watched, Foremans, Open, Shut, by-record, by-wait, Rules}
-use Rattle.promise.specs.Nets.{Has, OrdinaryIn, LinkIn, WaitIn, netOf}
+use Rattle.vee.specs.PlanTest.{Has, OrdinaryIn, LinkIn, WaitIn, netOf}
 
 -- ---- signed numbers
 

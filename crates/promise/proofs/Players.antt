@@ -28,7 +28,7 @@ use Rattle.board.proofs.Theorems.Taking.{opened}
 use Rattle.board.proofs.Theorems.Offered as offers
 use Rattle.network.specs.Projection.{InBounds}
 use Rattle.network.proofs.Search.{all-or-one}
-use Rattle.promise.specs.Nets.{netOf}
+use Rattle.vee.specs.PlanTest.{netOf}
 use Rattle.promise.specs.Plays.{Haulier, Foreman, Players, Fixed}
 use Rattle.promise.proofs.Nets.{joins, rules-of}
 use Rattle.promise.proofs.Boards.{running-of, in-time-of}

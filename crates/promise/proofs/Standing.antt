@@ -35,7 +35,7 @@ use Rattle.network.proofs.Stuck.{bound-now}
 use Rattle.network.proofs.Plans.{Ready, opens, runs, Safe, InTime}
 use Rattle.network.proofs.Durations as durations
 use Rattle.network.proofs.Safety.{open-or-running, low-to-high, all-kept}
-use Rattle.promise.specs.Nets.{Has, OrdinaryIn, netOf}
+use Rattle.vee.specs.PlanTest.{Has, OrdinaryIn, netOf}
 use Rattle.promise.proofs.Nets.{keeps, has-some, ordinary-in, wait-in, link-of, rules-of}
 use Rattle.promise.proofs.Boards.{saysOf, least-at, H-at, in-time-of, open-of, is-open, low-from}
 

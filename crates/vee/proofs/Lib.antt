@@ -13,3 +13,4 @@ pub mod Plans
 pub mod Sheets
 pub mod Orders
 pub mod Testing
+pub mod Yes

@@ -1,0 +1,198 @@
+-- The test answers yes exactly where the plan passes. The projections that are tested stand for all that are in bounds: only
+-- the durations at the links' C count, and each choice of these is one of the list. No function cites this file: it says what
+-- the contract of the test is worth. Assumes nothing.
+use mathlib.Core.Path.{_≡_, refl, sym, subst, ap, _∙_}
+use mathlib.Core.Bool.{true}
+use mathlib.Core.List.{List, [], _∷_, _++_}
+use Prim.Native.Nat.{ℕ, zero, suc, min, _+_, _-_, _<_, _≤_}
+use native.Mathlib.Omega.{arith}
+use native.Mathlib.Decide.{ℕ-discrete}
+use lib.IntN.{ℤ, pos}
+use lib.ListN.{length, getD, set, length-set, length-replicate}
+use lib.Seq.{getD-set-same, getD-set-other}
+use borrow.Author.Tests.{eqb-true}
+use Rattle.plan.specs.Limits.{mostPoints}
+use Rattle.plan.specs.APlan.{point, link, is, howMany, linkTo, blank, gapOf, recordsOf}
+use Rattle.plan.specs.ReplyNumbers.{checkOf}
+use Rattle.plan.specs.declared.Record.{Record}
+use Rattle.plan.specs.declared.Plan.{Plan}
+use Rattle.network.specs.Projection.{Net, InBounds, Edge, ordinary, there, back, wait}
+use Rattle.network.specs.Passing.{Good, Passes}
+use Rattle.vee.specs.declared.Answer.{Answer}
+use Rattle.vee.specs.declared.Answer.the-variants as answer
+use Rattle.vee.specs.Sheet.{by}
+use Rattle.vee.specs.Laws.{same-good}
+use Rattle.vee.specs.PlanTest.{LinkIn, netOf, Span, spanOf, spans, spread, projections, unset, many, mostProjections, Found, all-good, good, edgesOf, Tested, tested}
+use Rattle.vee.specs.Single.{one-answer}
+use Rattle.vee.proofs.Rules.{Valid}
+use Rattle.vee.proofs.Plans.{Whole, w-point, w-link, w-ordinary, w-wait, whole, few-points}
+use Rattle.vee.proofs.Orders.{span-here, span-not}
+use Rattle.vee.proofs.Testing.{accepted-plan}
+
+-- ---- what holds of each of a list
+
+data Every {A : Type 0} (P : A → Type 0) : List A → Type 0 where
+  none : Every P []
+  also : {x : A} {xs : List A} → P x → Every P xs → Every P (x ∷ xs)
+
+module _ {A : Type 0} {P : A → Type 0} where
+  front : (xs ys : List A) → Every P (xs ++ ys) → Every P xs
+  front [] ys e = none
+  front (x ∷ xs) ys (also p e) = also p (front xs ys e)
+
+  rest : (xs : List A) {ys : List A} → Every P (xs ++ ys) → Every P ys
+  rest [] e = e
+  rest (x ∷ xs) (also p e) = rest xs e
+
+-- a yes says that each is good
+found-good : {E : List ℕ → ℕ → ℕ → ℕ → ℕ → Type 0} {i j : ℕ} {ws : List (List ℕ)} → Found E i ws (answer.Yes j) → Every (λ w. Good (E w)) ws
+found-good all-good = none
+found-good (good g f) = also g (found-good f)
+
+-- ---- the links among the records
+
+-- what holds of each link's span holds of the links, by their places
+module _ {P : Span → Type 0} where
+  span-of : (rs : List Record) → Every P (spans rs) → (i : ℕ) → i < length rs → getD rs i blank .kind ≡ 2 → P (spanOf (getD rs i blank))
+  span-of [] e i h k = absurd (omega arith)
+  span-of (r ∷ rs) e zero h k = first (rw (span-here r rs k) at e)
+    where
+      first : Every P (spanOf r ∷ spans rs) → P (spanOf r)
+      first (also p e) = p
+  span-of (r ∷ rs) e (suc i) h k = elim (ℕ-discrete (r .kind) 2) [
+    | yes l ↦ span-of rs (rest (spanOf r ∷ []) (rw (span-here r rs l) at e)) i (omega arith) k
+    | no l ↦ span-of rs (rw (span-not r rs l) at e) i (omega arith) k
+  ]
+
+  of-spans : (rs : List Record) → ((i : ℕ) → i < length rs → getD rs i blank .kind ≡ 2 → P (spanOf (getD rs i blank))) → Every P (spans rs)
+  unfolding spans
+  of-spans [] h = none
+  of-spans (r ∷ rs) h =
+      let e = of-spans rs (λ i l k. h (suc i) (omega arith) k) in
+      elim (ℕ-discrete (r .kind) 2) [
+        | yes l ↦ rw (span-here r rs l) (also (h 0 (omega arith) l) e)
+        | no l ↦ rw (span-not r rs l) e
+      ]
+
+-- what an accepted plan says of a link: its C is a point, its bounds are natural numbers, and no other link ends there
+record Linked (rs : List Record) (r : Record) : Type 0 where
+  x : ℕ
+  y : ℕ
+  inside : r .b < howMany (is point) rs
+  least : r .first ≡ pos x
+  most : r .second ≡ pos y
+  alone : linkTo rs (r .b) ≡ r
+
+linked : {rs : List Record} {r : Record} → r .kind ≡ 2 → Whole rs r → Linked rs r
+linked e (w-point k _) = absurd (omega arith)
+linked e (w-link {x} {y} k a b f g l m u) = record { x = x; y = y; inside = b; least = f; most = g; alone = u }
+linked e (w-ordinary k _ _ _ _) = absurd (omega arith)
+linked e (w-wait k _ _ _ _ _) = absurd (omega arith)
+
+-- ---- the durations at the links' C
+
+-- durations that agree there have the same edges
+module _ (N : Net) where
+  record Agree (ω ν : ℕ → ℕ) : Type 0 where
+    same : {A x y C : ℕ} → N .Link A x y C → ω C ≡ ν C
+
+  turned : {ω ν : ℕ → ℕ} → Agree ω ν → Agree ν ω
+  turned a = record { same = λ l. sym (a .same l) }
+
+  carry : {ω ν : ℕ → ℕ} → Agree ω ν → (X Y u d : ℕ) → Edge N ω X Y u d → Edge N ν X Y u d
+  carry a X Y u d (ordinary o) = ordinary o
+  carry {ω} {ν} a X Y u d (there {A} {C = C} l) = subst (λ (t : ℕ). Edge N ν A C t 0) (sym (a .same l)) (there l)
+  carry {ω} {ν} a X Y u d (back {A} {C = C} l) = subst (λ (t : ℕ). Edge N ν C A 0 t) (sym (a .same l)) (back l)
+  carry {ω} {ν} a X Y u d (wait {A} {B = B} {w = w} l h) = subst (λ (t : ℕ). Edge N ν B A 0 (min w t)) (sym (a .same l)) (wait l h)
+
+  agree-good : {ω ν : ℕ → ℕ} → Agree ω ν → Good (Edge N ω) → Good (Edge N ν)
+  agree-good a = same-good (carry a) (carry (turned a))
+
+-- durations after a link's has been set
+by-same : (w : List ℕ) (C p : ℕ) → C < length w → by (set w C p) C ≡ p
+by-same w C p h = getD-set-same w C p 0 h
+
+by-other : (w : List ℕ) (C D p : ℕ) → (D ≡ C → ⊥) → by (set w C p) D ≡ by w D
+by-other w C D p n = getD-set-other w C D p 0 n
+
+-- ---- each choice in bounds is tested
+
+-- a duration that a link can have is among those that are spread
+one-spread : {P : List ℕ → Type 0} (f : List ℕ → List (List ℕ)) (C p k q : ℕ) (w : List ℕ) → p ≤ q → q < p + k → Every P (spread f C p k w) → Every P (f (set w C q))
+unfolding spread
+one-spread f C p zero q w l h e = absurd (omega arith)
+one-spread {P} f C p (suc k) q w l h e = elim (ℕ-discrete p q) [
+  | yes i ↦ subst (λ (t : ℕ). Every P (f (set w C t))) i (front (f (set w C p)) (spread f C (suc p) k w) e)
+  | no i ↦ one-spread f C (suc p) k q w (omega arith) (omega arith) (rest (f (set w C p)) e)
+]
+
+module _ (ω : ℕ → ℕ) where
+  -- ω gives the link one of its durations, at a point that has a place for it
+  record Chosen (l : Span) : Type 0 where
+    place : l .over < mostPoints
+    low : l .least ≤ ω (l .over)
+    high : ω (l .over) ≤ l .most
+
+  -- one of the list has ω's durations at the links, and wherever w has them
+  record Stands (P : List ℕ → Type 0) (ls : List Span) (w : List ℕ) : Type 0 where
+    who : List ℕ
+    holds : P who
+    at-links : Every (λ l. by who (l .over) ≡ ω (l .over)) ls
+    keeps : (C : ℕ) → by w C ≡ ω C → by who C ≡ ω C
+
+  stands : {P : List ℕ → Type 0} (ls : List Span) (w : List ℕ) → length w ≡ mostPoints → Every Chosen ls → Every P (projections ls w) → Stands P ls w
+  unfolding projections
+  stands [] w n none (also p e) = record { who = w; holds = p; at-links = none; keeps = λ C h. h }
+  stands {P} (l ∷ ls) w n (also c cs) e =
+      let C = l .over in
+      let q = ω C in
+      let s = stands ls (set w C q) (length-set w C q ∙ n) cs (one-spread (projections ls) C (l .least) (suc (l .most) - l .least) q w (c .low) (omega (arith, c .low, c .high)) e) in
+      record {
+        who = s .who;
+        holds = s .holds;
+        at-links = also (s .keeps C (by-same w C q (omega (arith, c .place)))) (s .at-links);
+        keeps = λ D h. s .keeps D (kept D h);
+      }
+    where
+      kept : (D : ℕ) → by w D ≡ ω D → by (set w (l .over) (ω (l .over))) D ≡ ω D
+      kept D h = elim (ℕ-discrete D (l .over)) [
+        | yes i ↦ rw i (by-same w (l .over) (ω (l .over)) (omega (arith, c .place)))
+        | no i ↦ by-other w (l .over) D (ω (l .over)) i ∙ h
+      ]
+
+module _ (rs : List Record) (v : Valid [] rs) where
+  few : howMany (is point) rs ≤ mostPoints
+  unfolding howMany
+  few = few-points v (omega arith)
+
+  a-link : (i : ℕ) → i < length rs → getD rs i blank .kind ≡ 2 → Linked rs (getD rs i blank)
+  a-link i h k = linked k (whole rs v i h)
+
+  chosen : (ω : ℕ → ℕ) → InBounds (netOf rs) ω → Every (Chosen ω) (spans rs)
+  chosen ω b = of-spans rs go
+    where
+      go : (i : ℕ) → i < length rs → getD rs i blank .kind ≡ 2 → Chosen ω (spanOf (getD rs i blank))
+      go i h k =
+          let r = getD rs i blank in
+          let t = a-link i h k in
+          let l : LinkIn rs (r .a) (t .x) (t .y) (r .b) = record { what = r; has = record { place = i; listed = h; here = refl; kind = rw k refl }; from = refl; to = refl; least = t .least; most = t .most } in
+          let m = b .within l in
+          record { place = omega (arith, t .inside, few); low = rw (t .least) (m .0); high = rw (t .most) (m .1) }
+
+  -- what holds of each link's span, for a link as the network has it
+  at-link : {P : Span → Type 0} → Every P (spans rs) → {A x y C : ℕ} → (l : LinkIn rs A x y C) → P (spanOf (l .what))
+  at-link {P} e l =
+      let h = l .has in
+      subst (λ (r : Record). P (spanOf r)) (h .here) (span-of rs e (h .place) (h .listed) (rw (h .here) (eqb-true (l .what .kind) 2 (h .kind))))
+
+  all-pass : Every (λ w. Good (edgesOf rs w)) (projections (spans rs) unset) → Passes (netOf rs)
+  all-pass e = record { each = go }
+    where
+      go : (ω : ℕ → ℕ) → InBounds (netOf rs) ω → Good (Edge (netOf rs) ω)
+      go ω b =
+          let s = stands ω (spans rs) unset (length-replicate {A = ℕ} mostPoints 0) (chosen ω b) e in
+          agree-good (netOf rs) (record { same = λ {A} {x} {y} {C} l. rw (← l .to) (at-link (s .at-links) l) }) (s .holds)
+
+-- A plan to which the test answers yes passes.
+pub yes-passes : {p : Plan} {j : ℕ} → Tested p (answer.Yes j) → Passes (netOf (recordsOf p))
+yes-passes {p} (tested e m f) = all-pass (recordsOf p) (accepted-plan p e .1) (found-good f)

@@ -1,13 +1,12 @@
 -- The test answers yes exactly where the plan passes. The projections that are tested stand for all that are in bounds: only
--- the durations at the links' C count, and each choice of these is one of the list. No function cites this file: it says what
--- the contract of the test is worth. Assumes nothing.
+-- the durations at the links' C count, and each choice of these is one of the list. Each of the list is in bounds too, since no
+-- two links end at one point. No function needs this file: it says what the contract of the test is worth. Assumes nothing.
 use mathlib.Core.Path.{_≡_, refl, sym, subst, ap, _∙_}
-use mathlib.Core.Bool.{true}
 use mathlib.Core.List.{List, [], _∷_, _++_}
 use Prim.Native.Nat.{ℕ, zero, suc, min, _+_, _-_, _<_, _≤_}
 use native.Mathlib.Omega.{arith}
 use native.Mathlib.Decide.{ℕ-discrete}
-use lib.IntN.{ℤ, pos}
+use lib.IntN.{pos}
 use lib.ListN.{length, getD, set, length-set, length-replicate}
 use lib.Seq.{getD-set-same, getD-set-other}
 use borrow.Author.Tests.{eqb-true}
@@ -28,6 +27,7 @@ use Rattle.vee.proofs.Rules.{Valid}
 use Rattle.vee.proofs.Plans.{Whole, w-point, w-link, w-ordinary, w-wait, whole, few-points}
 use Rattle.vee.proofs.Orders.{span-here, span-not}
 use Rattle.vee.proofs.Testing.{accepted-plan}
+use Rattle.vee.proofs.Walks.{as-many}
 
 -- ---- what holds of each of a list
 
@@ -43,6 +43,10 @@ module _ {A : Type 0} {P : A → Type 0} where
   rest : (xs : List A) {ys : List A} → Every P (xs ++ ys) → Every P ys
   rest [] e = e
   rest (x ∷ xs) (also p e) = rest xs e
+
+  join : {xs ys : List A} → Every P xs → Every P ys → Every P (xs ++ ys)
+  join none f = f
+  join (also p e) f = also p (join e f)
 
 -- a yes says that each is good
 found-good : {E : List ℕ → ℕ → ℕ → ℕ → ℕ → Type 0} {i j : ℕ} {ws : List (List ℕ)} → Found E i ws (answer.Yes j) → Every (λ w. Good (E w)) ws
@@ -64,6 +68,13 @@ module _ {P : Span → Type 0} where
     | no l ↦ span-of rs (rw (span-not r rs l) at e) i (omega arith) k
   ]
 
+  -- the same, by a link as the network has it
+  at-link : (rs : List Record) → Every P (spans rs) → {A x y C : ℕ} (l : LinkIn rs A x y C) → P (spanOf (l .what))
+  at-link rs e l =
+      let h = l .has in
+      subst (λ (r : Record). P (spanOf r)) (h .here) (span-of rs e (h .place) (h .listed) (rw (h .here) (eqb-true (l .what .kind) 2 (h .kind))))
+
+  -- and the other way about
   of-spans : (rs : List Record) → ((i : ℕ) → i < length rs → getD rs i blank .kind ≡ 2 → P (spanOf (getD rs i blank))) → Every P (spans rs)
   unfolding spans
   of-spans [] h = none
@@ -143,7 +154,7 @@ module _ (ω : ℕ → ℕ) where
   stands : {P : List ℕ → Type 0} (ls : List Span) (w : List ℕ) → length w ≡ mostPoints → Every Chosen ls → Every P (projections ls w) → Stands P ls w
   unfolding projections
   stands [] w n none (also p e) = record { who = w; holds = p; at-links = none; keeps = λ C h. h }
-  stands {P} (l ∷ ls) w n (also c cs) e =
+  stands (l ∷ ls) w n (also c cs) e =
       let C = l .over in
       let q = ω C in
       let s = stands ls (set w C q) (length-set w C q ∙ n) cs (one-spread (projections ls) C (l .least) (suc (l .most) - l .least) q w (c .low) (omega (arith, c .low, c .high)) e) in
@@ -161,6 +172,7 @@ module _ (ω : ℕ → ℕ) where
       ]
 
 module _ (rs : List Record) (v : Valid [] rs) where
+  -- the points have places, and the links are as said above
   few : howMany (is point) rs ≤ mostPoints
   unfolding howMany
   few = few-points v (omega arith)
@@ -168,6 +180,7 @@ module _ (rs : List Record) (v : Valid [] rs) where
   a-link : (i : ℕ) → i < length rs → getD rs i blank .kind ≡ 2 → Linked rs (getD rs i blank)
   a-link i h k = linked k (whole rs v i h)
 
+  -- durations in bounds give each link one of its own
   chosen : (ω : ℕ → ℕ) → InBounds (netOf rs) ω → Every (Chosen ω) (spans rs)
   chosen ω b = of-spans rs go
     where
@@ -179,20 +192,91 @@ module _ (rs : List Record) (v : Valid [] rs) where
           let m = b .within l in
           record { place = omega (arith, t .inside, few); low = rw (t .least) (m .0); high = rw (t .most) (m .1) }
 
-  -- what holds of each link's span, for a link as the network has it
-  at-link : {P : Span → Type 0} → Every P (spans rs) → {A x y C : ℕ} → (l : LinkIn rs A x y C) → P (spanOf (l .what))
-  at-link {P} e l =
-      let h = l .has in
-      subst (λ (r : Record). P (spanOf r)) (h .here) (span-of rs e (h .place) (h .listed) (rw (h .here) (eqb-true (l .what .kind) 2 (h .kind))))
-
+  -- where all that are tested are good, so is each projection in bounds: one of the list stands for it
   all-pass : Every (λ w. Good (edgesOf rs w)) (projections (spans rs) unset) → Passes (netOf rs)
   all-pass e = record { each = go }
     where
       go : (ω : ℕ → ℕ) → InBounds (netOf rs) ω → Good (Edge (netOf rs) ω)
       go ω b =
           let s = stands ω (spans rs) unset (length-replicate {A = ℕ} mostPoints 0) (chosen ω b) e in
-          agree-good (netOf rs) (record { same = λ {A} {x} {y} {C} l. rw (← l .to) (at-link (s .at-links) l) }) (s .holds)
+          agree-good (netOf rs) (record { same = λ {A} {x} {y} {C} l. rw (← l .to) (at-link rs (s .at-links) l) }) (s .holds)
 
 -- A plan to which the test answers yes passes.
 pub yes-passes : {p : Plan} {j : ℕ} → Tested p (answer.Yes j) → Passes (netOf (recordsOf p))
 yes-passes {p} (tested e m f) = all-pass (recordsOf p) (accepted-plan p e .1) (found-good f)
+
+-- ---- each choice that is tested is in bounds
+
+-- what holds after each duration of a link holds of all that are spread
+all-spread : {P : List ℕ → Type 0} (f : List ℕ → List (List ℕ)) (C p k : ℕ) (w : List ℕ) → ((q : ℕ) → p ≤ q → q < p + k → Every P (f (set w C q))) → Every P (spread f C p k w)
+unfolding spread
+all-spread f C p zero w h = none
+all-spread f C p (suc k) w h = join (h p (omega arith) (omega arith)) (all-spread f C (suc p) k w (λ q l m. h q (omega arith) (omega arith)))
+
+-- B says of a duration that a point may have it
+module _ (B : ℕ → ℕ → Type 0) where
+  -- the link's C may have each of the link's durations
+  record Able (l : Span) : Type 0 where
+    place : l .over < mostPoints
+    may : (q : ℕ) → l .least ≤ q → q ≤ l .most → B (l .over) q
+
+  -- in each of the list the links' C have a duration that they may have, and so has each point that has one in w: what
+  -- follows from that holds of the whole list
+  in-bounds : {P : List ℕ → Type 0} (ls : List Span) (w : List ℕ) → length w ≡ mostPoints → Every Able ls
+      → ((w′ : List ℕ) → Every (λ l. B (l .over) (by w′ (l .over))) ls → ((C : ℕ) → B C (by w C) → B C (by w′ C)) → P w′)
+      → Every P (projections ls w)
+  unfolding projections
+  in-bounds [] w n none f = also (f w none (λ C h. h)) none
+  in-bounds (l ∷ ls) w n (also a able) f =
+      all-spread (projections ls) (l .over) (l .least) (suc (l .most) - l .least) w (λ q low high.
+      let b = a .may q low (omega arith) in
+      in-bounds ls (set w (l .over) q) (length-set w (l .over) q ∙ n) able (λ w′ e k. f w′ (also (k (l .over) (new q b)) e) (λ D h. k D (kept q b D h))))
+    where
+      new : (q : ℕ) → B (l .over) q → B (l .over) (by (set w (l .over) q) (l .over))
+      new q b = rw (by-same w (l .over) q (omega (arith, a .place))) b
+
+      kept : (q : ℕ) → B (l .over) q → (D : ℕ) → B D (by w D) → B D (by (set w (l .over) q) D)
+      kept q b D h = elim (ℕ-discrete D (l .over)) [
+        | yes i ↦ rw i (new q b)
+        | no i ↦ rw (by-other w (l .over) D q i) h
+      ]
+
+-- where all are good, the answer is yes with their number
+all-found : {E : List ℕ → ℕ → ℕ → ℕ → ℕ → Type 0} (i j : ℕ) {ws : List (List ℕ)} → j ≡ i + length ws → Every (λ w. Good (E w)) ws → Found E i ws (answer.Yes j)
+all-found {E} i j h none = subst (λ (t : ℕ). Found E i [] (answer.Yes t)) (omega arith) all-good
+all-found i j h (also g e) = good g (all-found (i + 1) j (omega arith) e)
+
+module _ (rs : List Record) (v : Valid [] rs) where
+  -- the point C may have the duration q: each link that ends at C allows it
+  record May (C q : ℕ) : Type 0 where
+    allowed : {A x y : ℕ} → LinkIn rs A x y C → (x ≤ q) × (q ≤ y)
+
+  -- a link that ends where the link r does is r, and has r's durations
+  allows : {r : Record} → Linked rs r → (q : ℕ) → gapOf (r .first) .up ≤ q → q ≤ gapOf (r .second) .up → {A x y : ℕ} → LinkIn rs A x y (r .b) → (x ≤ q) × (q ≤ y)
+  allows {r} t q low high l =
+      let h = l .has in
+      let o : Whole rs (l .what) = rw (← h .here) (whole rs v (h .place) (h .listed)) in
+      let e : r ≡ l .what = sym (t .alone) ∙ ap (linkTo rs) (sym (l .to)) ∙ linked (eqb-true (l .what .kind) 2 (h .kind)) o .alone in
+      (rw (e, l .least) at low, rw (e, l .most) at high)
+
+  -- so a link's C may have each of the link's durations
+  able : Every (Able May) (spans rs)
+  able = of-spans rs (λ i h k.
+      let t = a-link rs v i h k in
+      record { place = omega (arith, t .inside, few rs v); may = λ q low high. record { allowed = allows t q low high } })
+
+  -- where each projection in bounds is good, so are all that are tested
+  passing-good : Passes (netOf rs) → Every (λ w. Good (edgesOf rs w)) (projections (spans rs) unset)
+  passing-good p = in-bounds May (spans rs) unset (length-replicate {A = ℕ} mostPoints 0) able go
+    where
+      go : (w : List ℕ) → Every (λ l. May (l .over) (by w (l .over))) (spans rs) → ((C : ℕ) → May C (by unset C) → May C (by w C)) → Good (edgesOf rs w)
+      go w e k = p .each (by w) (record { within = λ {A} {x} {y} {C} l. (rw (l .to) at (at-link rs e l)) .allowed l })
+
+-- A plan that is accepted, has no more projections than are tested, and passes, is answered yes, with their number.
+pub passes-yes : {p : Plan} → checkOf p .number ≡ 0 → many (spans (recordsOf p)) ≤ mostProjections → Passes (netOf (recordsOf p)) → Tested p (answer.Yes (many (spans (recordsOf p))))
+passes-yes {p} e m h = tested e m (all-found 0 (many (spans (recordsOf p))) (omega (arith, as-many (spans (recordsOf p)) unset)) (passing-good (recordsOf p) (accepted-plan p e .1) h))
+
+-- So the one answer to such a plan is a yes exactly where it passes, and then with the number of its projections.
+pub yes-exactly : {p : Plan} {a : Answer} → checkOf p .number ≡ 0 → many (spans (recordsOf p)) ≤ mostProjections → Tested p a
+    → ((j : ℕ) → a ≡ answer.Yes j → Passes (netOf (recordsOf p))) × (Passes (netOf (recordsOf p)) → a ≡ answer.Yes (many (spans (recordsOf p))))
+yes-exactly e m t = (λ j i. yes-passes (rw i at t), λ h. one-answer t (passes-yes e m h))

@@ -98,6 +98,13 @@ fn full() {
     answer(&bytes[..n]);
 }
 
+// A plan that fails only inside its bounds: both the shortest and the longest duration pass.
+fn inside() {
+    let mut bytes = [0u8; 192];
+    let n = io::read_full(0, &mut bytes);
+    answer(&bytes[..n]);
+}
+
 fn main() {
     haul();
     haul_without_wait();
@@ -107,4 +114,5 @@ fn main() {
     past_4096();
     no_links();
     full();
+    inside();
 }

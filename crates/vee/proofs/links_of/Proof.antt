@@ -6,9 +6,6 @@ use borrow.Author.Needs.{needs}
 use native.Mathlib.Omega.{arith}
 use Rattle.vee.proofs.links_of.Statement.{statement}
 use Rattle.vee.proofs.links_of.Tie as tie
-use Rattle.vee.proofs.links_of.Reads as reads
-use Rattle.vee.proofs.links_of.Lts as lts
-use Rattle.vee.proofs.one_if.Reads as one-if-reads
 
 abbrev Inv-loop : tie.InvT-loop
 Inv-loop plan count n₀ i₀ n i = Counting plan i n

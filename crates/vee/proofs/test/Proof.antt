@@ -7,14 +7,6 @@ use native.Mathlib.Omega.{arith}
 use borrow.Author.Needs.{needs}
 use Rattle.vee.proofs.test.Statement.{statement}
 use Rattle.vee.proofs.test.Tie as tie
-use Rattle.vee.proofs.test.Reads as reads
-use Rattle.vee.proofs.test.Lts as lts
-use Rattle.plan.proofs.check.Reads as check-reads
-use Rattle.plan.proofs.points_of.Reads as points-of-reads
-use Rattle.vee.proofs.layout.lay_out.Reads as lay-out-reads
-use Rattle.vee.proofs.links_of.Reads as links-of-reads
-use Rattle.vee.proofs.walk.projections.Reads as projections-reads
-use Rattle.vee.proofs.walk.walk.Reads as walk-reads
 
 check-requires : tie.Need-check-requires
 check-requires c κs = search needs

@@ -7,10 +7,6 @@ use borrow.Author.Needs.{needs}
 use native.Mathlib.Omega.{arith}
 use Rattle.vee.proofs.layout.lay_out.Statement.{statement}
 use Rattle.vee.proofs.layout.lay_out.Tie as tie
-use Rattle.vee.proofs.layout.lay_out.Reads as reads
-use Rattle.vee.proofs.layout.lay_out.Lts as lts
-use Rattle.vee.proofs.layout.row_of.Reads as row-of-reads
-use Rattle.vee.proofs.layout.write_row.Reads as write-row-reads
 
 abbrev Inv-loop : tie.InvT-loop
 Inv-loop sheet₀ plan count q₀ sheet q = (q ≤ count) × Laying (recordsOf plan) q sheet

@@ -7,13 +7,6 @@ use native.Mathlib.Omega.{arith}
 use borrow.Author.Needs.{needs, sfits-of}
 use Rattle.vee.proofs.layout.row_of.Statement.{statement}
 use Rattle.vee.proofs.layout.row_of.Tie as tie
-use Rattle.vee.proofs.layout.row_of.Reads as reads
-use Rattle.vee.proofs.layout.row_of.Lts as lts
-use Rattle.plan.proofs.split.Reads as split-reads
-use Rattle.vee.proofs.layout.byte.Reads as byte-reads
-use Rattle.vee.proofs.layout.pick.Reads as pick-reads
-use Rattle.vee.proofs.layout.start_of.Reads as start-of-reads
-use Rattle.vee.proofs.layout.word.Reads as word-reads
 
 split-requires : tie.Need-split-requires
 split-requires c κs = search needs

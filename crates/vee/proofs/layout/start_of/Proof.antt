@@ -7,9 +7,6 @@ use native.Mathlib.Omega.{arith}
 use borrow.Author.Needs.{needs}
 use Rattle.vee.proofs.layout.start_of.Statement.{statement}
 use Rattle.vee.proofs.layout.start_of.Tie as tie
-use Rattle.vee.proofs.layout.start_of.Reads as reads
-use Rattle.vee.proofs.layout.start_of.Lts as lts
-use Rattle.plan.proofs.link_to.Reads as link-to-reads
 
 link-to-requires : tie.Need-link-to-requires
 link-to-requires c κs = search needs

@@ -4,8 +4,6 @@ use native.Mathlib.Omega.{arith}
 use borrow.Author.Needs.{needs}
 use Rattle.vee.proofs.layout.write_row.Statement.{statement}
 use Rattle.vee.proofs.layout.write_row.Tie as tie
-use Rattle.vee.proofs.layout.write_row.Reads as reads
-use Rattle.vee.proofs.layout.write_row.Lts as lts
 
 mul-at : tie.Need-mul-at
 mul-at c = search needs

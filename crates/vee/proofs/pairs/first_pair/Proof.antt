@@ -6,9 +6,6 @@ use borrow.Author.Needs.{needs}
 use native.Mathlib.Omega.{arith}
 use Rattle.vee.proofs.pairs.first_pair.Statement.{statement}
 use Rattle.vee.proofs.pairs.first_pair.Tie as tie
-use Rattle.vee.proofs.pairs.first_pair.Reads as reads
-use Rattle.vee.proofs.pairs.first_pair.Lts as lts
-use Rattle.vee.proofs.pairs.in_row.Reads as in-row-reads
 
 abbrev Inv-loop : tie.InvT-loop
 Inv-loop all falls rises n x₀ x = CleanRows n (at all) (at falls) (at rises) x

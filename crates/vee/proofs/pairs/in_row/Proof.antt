@@ -6,9 +6,6 @@ use borrow.Author.Needs.{needs}
 use native.Mathlib.Omega.{arith}
 use Rattle.vee.proofs.pairs.in_row.Statement.{statement}
 use Rattle.vee.proofs.pairs.in_row.Tie as tie
-use Rattle.vee.proofs.pairs.in_row.Reads as reads
-use Rattle.vee.proofs.pairs.in_row.Lts as lts
-use Rattle.vee.proofs.pairs.meets.Reads as meets-reads
 
 abbrev Inv-loop : tie.InvT-loop
 Inv-loop all falls rises n x y₀ y = Clean n (at all) (at falls) (at rises) x y

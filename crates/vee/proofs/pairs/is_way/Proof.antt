@@ -5,8 +5,6 @@ use native.Mathlib.Omega.{arith}
 use borrow.Author.Needs.{needs}
 use Rattle.vee.proofs.pairs.is_way.Statement.{statement}
 use Rattle.vee.proofs.pairs.is_way.Tie as tie
-use Rattle.vee.proofs.pairs.is_way.Reads as reads
-use Rattle.vee.proofs.pairs.is_way.Lts as lts
 
 add-result : tie.Need-add-result
 add-result c = search needs

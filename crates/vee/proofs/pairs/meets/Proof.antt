@@ -6,9 +6,6 @@ use native.Mathlib.Omega.{arith}
 use borrow.Author.Needs.{needs}
 use Rattle.vee.proofs.pairs.meets.Statement.{statement}
 use Rattle.vee.proofs.pairs.meets.Tie as tie
-use Rattle.vee.proofs.pairs.meets.Reads as reads
-use Rattle.vee.proofs.pairs.meets.Lts as lts
-use Rattle.vee.proofs.pairs.reaches.Reads as reaches-reads
 
 mul-v : tie.Need-mul-v
 mul-v c = search needs

@@ -6,9 +6,6 @@ use borrow.Author.Needs.{needs}
 use native.Mathlib.Omega.{arith}
 use Rattle.vee.proofs.pairs.reaches.Statement.{statement}
 use Rattle.vee.proofs.pairs.reaches.Tie as tie
-use Rattle.vee.proofs.pairs.reaches.Reads as reads
-use Rattle.vee.proofs.pairs.reaches.Lts as lts
-use Rattle.vee.proofs.pairs.is_way.Reads as is-way-reads
 
 abbrev Inv-loop : tie.InvT-loop
 Inv-loop falls rises n x y v row m₀ m = NotYet n (at falls) (at rises) x y v m

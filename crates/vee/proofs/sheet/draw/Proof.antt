@@ -6,10 +6,6 @@ use borrow.Author.Needs.{needs}
 use native.Mathlib.Omega.{arith}
 use Rattle.vee.proofs.sheet.draw.Statement.{statement}
 use Rattle.vee.proofs.sheet.draw.Tie as tie
-use Rattle.vee.proofs.sheet.draw.Reads as reads
-use Rattle.vee.proofs.sheet.draw.Lts as lts
-use Rattle.vee.proofs.sheet.lay.Reads as lay-reads
-use Rattle.vee.proofs.table.begin.Reads as begin-reads
 
 abbrev Inv-loop : tie.InvT-loop
 Inv-loop t₀ part sheet durations n m q₀ t q = (q ≤ m) × Drawing part sheet durations n q t

@@ -4,10 +4,6 @@ use native.Mathlib.Omega.{arith}
 use borrow.Author.Needs.{needs}
 use Rattle.vee.proofs.sheet.fill.Statement.{statement}
 use Rattle.vee.proofs.sheet.fill.Tie as tie
-use Rattle.vee.proofs.sheet.fill.Reads as reads
-use Rattle.vee.proofs.sheet.fill.Lts as lts
-use Rattle.vee.proofs.sheet.draw.Reads as draw-reads
-use Rattle.vee.proofs.table.close.Reads as close-reads
 
 draw-requires : tie.Need-draw-requires
 draw-requires c κs = search needs

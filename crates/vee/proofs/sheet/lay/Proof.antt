@@ -4,10 +4,6 @@ use native.Mathlib.Omega.{arith}
 use borrow.Author.Needs.{needs}
 use Rattle.vee.proofs.sheet.lay.Statement.{statement}
 use Rattle.vee.proofs.sheet.lay.Tie as tie
-use Rattle.vee.proofs.sheet.lay.Reads as reads
-use Rattle.vee.proofs.sheet.lay.Lts as lts
-use Rattle.vee.proofs.sheet.index.Reads as index-reads
-use Rattle.vee.proofs.sheet.put.Reads as put-reads
 
 mul-at : tie.Need-mul-at
 mul-at c = search needs

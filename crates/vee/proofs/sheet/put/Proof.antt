@@ -5,10 +5,6 @@ use native.Mathlib.Omega.{arith}
 use borrow.Author.Needs.{needs}
 use Rattle.vee.proofs.sheet.put.Statement.{statement}
 use Rattle.vee.proofs.sheet.put.Tie as tie
-use Rattle.vee.proofs.sheet.put.Reads as reads
-use Rattle.vee.proofs.sheet.put.Lts as lts
-use Rattle.vee.proofs.sheet.lesser.Reads as lesser-reads
-use Rattle.vee.proofs.table.offer_of.Reads as offer-of-reads
 
 offer-of-requires : tie.Need-offer-of-requires
 offer-of-requires c κs = let h = c .before .before .pre in record { long = h .long; from = h .from (omega arith); to = h .to (omega arith); up = h .first (omega arith); down = h .second (omega arith) }

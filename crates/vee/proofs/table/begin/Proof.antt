@@ -6,9 +6,6 @@ use borrow.Author.Needs.{needs}
 use native.Mathlib.Omega.{arith}
 use Rattle.vee.proofs.table.begin.Statement.{statement}
 use Rattle.vee.proofs.table.begin.Tie as tie
-use Rattle.vee.proofs.table.begin.Reads as reads
-use Rattle.vee.proofs.table.begin.Lts as lts
-use Rattle.vee.proofs.table.clear.Reads as clear-reads
 
 abbrev Inv-loop : tie.InvT-loop
 Inv-loop t₀ i₀ t i = Diagonal i t

@@ -5,10 +5,6 @@ use native.Mathlib.Omega.{arith}
 use borrow.Author.Needs.{needs}
 use Rattle.vee.proofs.table.offer_of.Statement.{statement}
 use Rattle.vee.proofs.table.offer_of.Tie as tie
-use Rattle.vee.proofs.table.offer_of.Reads as reads
-use Rattle.vee.proofs.table.offer_of.Lts as lts
-use Rattle.vee.proofs.table.offer.Reads as offer-reads
-use Rattle.vee.proofs.table.takes.Reads as takes-reads
 
 takes-requires : tie.Need-takes-requires
 takes-requires c κs = search needs

@@ -4,9 +4,6 @@ use Rattle.vee.proofs.Rows.{InRow, row-start, row-turn, row-ended, row-
 use native.Mathlib.Omega.{arith}
 use Rattle.vee.proofs.table.row.Statement.{statement}
 use Rattle.vee.proofs.table.row.Tie as tie
-use Rattle.vee.proofs.table.row.Reads as reads
-use Rattle.vee.proofs.table.row.Lts as lts
-use Rattle.vee.proofs.table.best.Reads as best-reads
 
 abbrev Inv-loop : tie.InvT-loop
 Inv-loop t₀ n i k b here there j₀ t j = InRow n i k t₀ j t

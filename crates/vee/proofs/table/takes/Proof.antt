@@ -3,8 +3,6 @@ use native.Mathlib.Omega.{arith}
 use borrow.Author.Needs.{needs}
 use Rattle.vee.proofs.table.takes.Statement.{statement}
 use Rattle.vee.proofs.table.takes.Tie as tie
-use Rattle.vee.proofs.table.takes.Reads as reads
-use Rattle.vee.proofs.table.takes.Lts as lts
 
 enum-told : tie.Need-enum-told
 enum-told c = search needs

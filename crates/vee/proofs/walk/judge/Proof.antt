@@ -5,10 +5,6 @@ use native.Mathlib.Omega.{arith}
 use borrow.Author.Needs.{needs}
 use Rattle.vee.proofs.walk.judge.Statement.{statement}
 use Rattle.vee.proofs.walk.judge.Tie as tie
-use Rattle.vee.proofs.walk.judge.Reads as reads
-use Rattle.vee.proofs.walk.judge.Lts as lts
-use Rattle.vee.proofs.pairs.first_pair.Reads as first-pair-reads
-use Rattle.vee.proofs.sheet.fill.Reads as fill-reads
 
 fill-requires : tie.Need-fill-requires
 fill-requires c κs = search needs

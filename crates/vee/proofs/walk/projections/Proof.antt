@@ -5,8 +5,6 @@ use borrow.Author.Needs.{needs}
 use native.Mathlib.Omega.{arith}
 use Rattle.vee.proofs.walk.projections.Statement.{statement}
 use Rattle.vee.proofs.walk.projections.Tie as tie
-use Rattle.vee.proofs.walk.projections.Reads as reads
-use Rattle.vee.proofs.walk.projections.Lts as lts
 
 abbrev Inv-loop : tie.InvT-loop
 Inv-loop sheet past links total₀ k₀ total k = Counting sheet past links k total

@@ -20,7 +20,13 @@ pub fn move_records(draw: &mut Draw, bytes: &mut Vec<u8>) {
     if records.is_empty() {
         return;
     }
-    let (from, to) = (draw.below(records.len()), draw.below(records.len()));
+    let (mut from, mut to) = (draw.below(records.len()), draw.below(records.len()));
+    // Points moved are refused at once: leave them where they are half of the time.
+    let points = records.iter().filter(|record| record[0] == 1).count();
+    if points < records.len() && draw.one_in(2) {
+        from = points + draw.below(records.len() - points);
+        to = points + draw.below(records.len() - points);
+    }
     match draw.below(6) {
         0 => records.swap(from, to),
         1 => {
@@ -65,9 +71,26 @@ pub fn aim(draw: &mut Draw, bytes: &mut [u8]) {
         .filter(|r| r[0] == 2)
         .map(<[u8]>::to_vec)
         .collect();
-    let at = draw.below(count) * RECORD;
-    let record = &mut bytes[at..at + RECORD];
-    match draw.below(8) {
+    // A record of a kind that the way is about, where there is one.
+    let way = draw.below(9);
+    let kinds: &[u8] = match way {
+        3 if !draw.one_in(3) => &[2, 3, 4],
+        4 => &[2, 3, 4],
+        5 => &[2, 4],
+        6 => &[2],
+        7 | 8 => &[2, 3, 4],
+        _ => &[1, 2, 3, 4],
+    };
+    let fitting: Vec<usize> = (0..count)
+        .filter(|&k| kinds.contains(&bytes[k * RECORD]))
+        .collect();
+    let at = if fitting.is_empty() {
+        draw.below(count)
+    } else {
+        draw.pick(&fitting)
+    };
+    let record = &mut bytes[at * RECORD..(at + 1) * RECORD];
+    match way {
         0 => record[0] = draw.pick(&[0, 5, 6, 255, 128]),
         1 => record[0] = draw.between(1, 4) as u8,
         2 => {

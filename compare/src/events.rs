@@ -33,8 +33,8 @@ fn last_minute(plan: &Plan, at: &Board) -> i64 {
     last.unwrap_or(at.clock())
 }
 
-/// An event that will be taken, if there is one.
-pub fn good(draw: &mut Draw, plan: &Plan, at: &Board) -> Option<Record> {
+/// An event that will be taken, if there is one; a calm one comes soon after it may.
+pub fn good(draw: &mut Draw, plan: &Plan, at: &Board, calm: bool) -> Option<Record> {
     if board::outcome(plan, at) == board::Outcome::Stuck {
         return None;
     }
@@ -54,7 +54,7 @@ pub fn good(draw: &mut Draw, plan: &Plan, at: &Board) -> Option<Record> {
         return None;
     }
     let (foreman, mut set, first) = draw.pick(&choices);
-    let far = if draw.one_in(3) {
+    let far = if !calm && draw.one_in(3) {
         last
     } else {
         last.min(first + 10)
@@ -167,11 +167,13 @@ pub fn stream(draw: &mut Draw, plan: &Plan, style: Style) -> Vec<u8> {
     } else {
         3 * plan.points() + 2
     };
+    // A jump of the clock ends a long run early.
+    let calm = plan.points() > 6 && !draw.one_in(3);
     let spoil_at = draw.below(plan.points() + 1);
     for k in 0..most {
         let next = match style {
             Style::Noise => Some(noise(draw, plan, &at)),
-            _ => good(draw, plan, &at),
+            _ => good(draw, plan, &at, calm),
         };
         let Some(next) = next else { break };
         let spoil = match style {

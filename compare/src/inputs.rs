@@ -48,8 +48,8 @@ pub fn batch(draw: &mut Draw, number: u64) -> Vec<Input> {
     match number * 7 % 40 {
         0..=9 => passing_runs(draw),
         10..=12 => haul_runs(draw),
-        13..=17 => small_plans(draw),
-        18 => sized_plans(draw),
+        13..=16 => small_plans(draw),
+        17..=18 => sized_plans(draw),
         19 => limits(draw),
         20..=21 => chains(draw),
         22..=24 => stuck_plans(draw),
@@ -109,13 +109,12 @@ fn small_plans(draw: &mut Draw) -> Vec<Input> {
 
 fn sized_plans(draw: &mut Draw) -> Vec<Input> {
     let sizes = Sizes::any(draw);
-    let scale = plans::scale(draw);
-    let mut plan = plans::any(draw, sizes, scale, true);
     if draw.one_in(2) {
-        // Fewer records that shut points, so that runs go on.
-        plan.ordinary
-            .retain(|record| record.d >= 0 || record.x > record.y);
+        let plan = plans::roomy(draw, sizes);
+        return streams(draw, "plan of any size with long runs", &plan, 4);
     }
+    let scale = plans::scale(draw);
+    let plan = plans::any(draw, sizes, scale, true);
     streams(draw, "plan of any size", &plan, 4)
 }
 
@@ -124,7 +123,7 @@ fn limits(draw: &mut Draw) -> Vec<Input> {
     let full = plans::full(draw);
     let sizes = [FULL.points, FULL.links, FULL.ordinary, FULL.waits];
     let kind = draw.below(4);
-    let mut inputs = streams(draw, "full plan", &full, 2);
+    let mut inputs = streams(draw, "full plan", &full, 3);
     for by in [-1, 0, 1, 1] {
         for others_full in [false, true] {
             let mut records: Vec<RawRecord> = full.to_records();

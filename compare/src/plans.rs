@@ -97,11 +97,49 @@ pub fn any(draw: &mut Draw, sizes: Sizes, scale: i64, hidden: bool) -> Plan {
     plan
 }
 
+/// A plan of any size whose runs go on for long: an order of the points is hidden in it, steps are short and upper
+/// bounds are far, most of them.
+pub fn roomy(draw: &mut Draw, sizes: Sizes) -> Plan {
+    let scale = draw.pick(&[2, 5, 20, 100]);
+    let mut plan = any(draw, sizes, scale, false);
+    let mut place: Vec<usize> = (0..sizes.points).collect();
+    draw.shuffle(&mut place);
+    for record in &mut plan.ordinary {
+        let (x, y) = (record.x, record.y);
+        let watched = plan.links.iter().any(|link| link.c == x);
+        record.d = if place[y] > place[x] || watched {
+            draw.edgy(BOUND / 2, BOUND)
+        } else {
+            draw.edgy(-scale, -1)
+        };
+        if draw.one_in(1_000) {
+            record.d = draw.between(0, scale * 40);
+        }
+    }
+    // A point that C comes before waits for C's A too, so A comes before it.
+    for record in &mut plan.ordinary {
+        let link = plan.links.iter().find(|link| link.c == record.y);
+        if link.is_some_and(|link| place[link.a] >= place[record.x]) {
+            record.d = BOUND;
+        }
+    }
+    let links = plan.links.clone();
+    plan.waits.retain(|wait| {
+        let link = links.iter().find(|link| link.c == wait.c);
+        link.is_some_and(|link| place[wait.v] > place[link.a])
+    });
+    plan
+}
+
 /// A full plan: every kind at its limit.
 pub fn full(draw: &mut Draw) -> Plan {
     loop {
-        let scale = scale(draw);
-        let mut plan = any(draw, FULL, scale, true);
+        let mut plan = if draw.one_in(3) {
+            let scale = scale(draw);
+            any(draw, FULL, scale, true)
+        } else {
+            roomy(draw, FULL)
+        };
         let drawn = plan.waits.clone();
         while !drawn.is_empty() && plan.waits.len() < FULL.waits {
             plan.waits.push(draw.pick(&drawn));

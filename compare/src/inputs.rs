@@ -1,0 +1,372 @@
+//! Draws whole inputs in batches: a plan part, the mark, events, and an unfinished last record now and then.
+
+use crate::damage;
+use crate::draw::Draw;
+use crate::events::{self, Style, MARK, STYLES};
+use crate::plans::{self, Sizes, FULL};
+use oracle::plan::{self, Plan, RawRecord, RECORD, ROOM};
+
+pub struct Input {
+    /// How it was made.
+    pub what: String,
+    pub bytes: Vec<u8>,
+}
+
+fn input(what: &str, bytes: Vec<u8>) -> Input {
+    Input {
+        what: what.to_string(),
+        bytes,
+    }
+}
+
+/// Plan part, mark and events.
+fn joined(plan_part: &[u8], events: &[u8]) -> Vec<u8> {
+    [plan_part, &MARK, events].concat()
+}
+
+/// A last record that is not finished.
+fn tail(draw: &mut Draw, length: usize) -> Vec<u8> {
+    let byte = draw.pick(&[0, 1, 255]);
+    let mut bytes = vec![byte; length];
+    if draw.one_in(3) {
+        bytes.fill_with(|| draw.byte());
+    }
+    bytes
+}
+
+/// Events for a plan part that may be refused: those of its plan, else of the plan it was made from.
+fn events_for(draw: &mut Draw, plan_part: &[u8], made_from: &Plan) -> Vec<u8> {
+    let style = draw.pick(&STYLES);
+    match plan::read(plan_part) {
+        Ok(plan) => events::stream(draw, &plan, style),
+        Err(_) => events::stream(draw, made_from, style),
+    }
+}
+
+/// The batch of this number: every eighty batches hold each kind of input.
+pub fn batch(draw: &mut Draw, number: u64) -> Vec<Input> {
+    match number * 7 % 40 {
+        0..=9 => passing_runs(draw),
+        10..=12 => haul_runs(draw),
+        13..=16 => small_plans(draw),
+        17..=18 => sized_plans(draw),
+        19 => limits(draw),
+        20..=21 => chains(draw),
+        22..=24 => stuck_plans(draw),
+        25 => each_byte(draw),
+        26 if number % 80 < 40 => each_cut(draw),
+        26 => limits(draw),
+        27..=29 => moved(draw),
+        30..=34 => aimed(draw),
+        35..=36 => marks(draw),
+        37 => each_tail(draw),
+        38 => long_parts(draw),
+        _ => many_events(draw),
+    }
+}
+
+/// All streams for one plan, some with an unfinished last record.
+fn streams(draw: &mut Draw, what: &str, plan: &Plan, count: usize) -> Vec<Input> {
+    let mut inputs = Vec::new();
+    for k in 0..count {
+        let style = STYLES[k % STYLES.len()];
+        let name = match style {
+            Style::Good => "good events",
+            Style::OneSpoiled => "one event spoiled",
+            Style::Mixed => "good and spoiled events",
+            Style::Noise => "noise for events",
+        };
+        let mut bytes = joined(&plan.to_bytes(), &events::stream(draw, plan, style));
+        if draw.one_in(10) {
+            let length = 1 + draw.below(RECORD - 1);
+            bytes.extend(tail(draw, length));
+        }
+        inputs.push(input(&format!("{what}, {name}"), bytes));
+    }
+    inputs
+}
+
+fn passing_runs(draw: &mut Draw) -> Vec<Input> {
+    let mut plan = plans::passing(draw);
+    let mut inputs = streams(draw, "plan that passes the test", &plan, 8);
+    plans::near_miss(draw, &mut plan);
+    inputs.extend(streams(draw, "plan that nearly passes", &plan, 4));
+    inputs
+}
+
+fn haul_runs(draw: &mut Draw) -> Vec<Input> {
+    let plan = plans::haul(draw);
+    streams(draw, "the haul or close to it", &plan, 8)
+}
+
+fn small_plans(draw: &mut Draw) -> Vec<Input> {
+    let sizes = Sizes::small(draw);
+    let scale = plans::scale(draw);
+    let hidden = !draw.one_in(4);
+    let plan = plans::any(draw, sizes, scale, hidden);
+    streams(draw, "small plan", &plan, 4)
+}
+
+fn sized_plans(draw: &mut Draw) -> Vec<Input> {
+    let sizes = Sizes::any(draw);
+    if draw.one_in(2) {
+        let plan = plans::roomy(draw, sizes);
+        return streams(draw, "plan of any size with long runs", &plan, 4);
+    }
+    let scale = plans::scale(draw);
+    let plan = plans::any(draw, sizes, scale, true);
+    streams(draw, "plan of any size", &plan, 4)
+}
+
+/// Plans with a kind at its limit, one below and one past it.
+fn limits(draw: &mut Draw) -> Vec<Input> {
+    let full = plans::full(draw);
+    let sizes = [FULL.points, FULL.links, FULL.ordinary, FULL.waits];
+    let kind = draw.below(4);
+    let mut inputs = streams(draw, "full plan", &full, 3);
+    for by in [-1, 0, 1, 1] {
+        for others_full in [false, true] {
+            let mut records: Vec<RawRecord> = full.to_records();
+            if !others_full {
+                // Only a few of the kinds after points and links, other than the one at its limit.
+                let mut seen = [0; 5];
+                records.retain(|record| {
+                    let k = usize::from(record.kind);
+                    seen[k] += 1;
+                    k <= 2 || k == kind + 1 || seen[k] <= 3
+                });
+            }
+            let last = records
+                .iter()
+                .rposition(|record| usize::from(record.kind) == kind + 1);
+            let last = last.expect("a full plan has every kind");
+            if by < 0 {
+                records.remove(last);
+            } else if by > 0 {
+                let mut more = records[last];
+                if kind == 0 {
+                    more.a += 1;
+                }
+                records.insert(last + 1, more);
+            }
+            let mut part: Vec<u8> = records.iter().flat_map(RawRecord::bytes).collect();
+            if draw.one_in(3) {
+                damage::aim(draw, &mut part);
+            }
+            let events = events_for(draw, &part, &full);
+            let what = format!(
+                "kind {} at {} and {by}, {} records",
+                kind + 1,
+                sizes[kind],
+                records.len()
+            );
+            inputs.push(input(&what, joined(&part, &events)));
+        }
+    }
+    inputs
+}
+
+fn chains(draw: &mut Draw) -> Vec<Input> {
+    let plan = plans::chain(draw);
+    streams(draw, "chain of long steps", &plan, 2)
+}
+
+fn stuck_plans(draw: &mut Draw) -> Vec<Input> {
+    let plan = plans::stuck(draw);
+    streams(draw, "plan that gets stuck", &plan, 4)
+}
+
+/// A small plan with something of every kind, most of the time.
+fn small_good(draw: &mut Draw) -> Plan {
+    match draw.below(3) {
+        0 => plans::haul(draw),
+        1 => plans::passing(draw),
+        _ => {
+            let mut sizes = Sizes::small(draw);
+            sizes.points += 2;
+            let scale = plans::scale(draw);
+            plans::any(draw, sizes, scale, true)
+        }
+    }
+}
+
+/// Each byte of a file changed in turn, and some bytes of events.
+fn each_byte(draw: &mut Draw) -> Vec<Input> {
+    let plan = small_good(draw);
+    let part = plan.to_bytes();
+    let style = draw.pick(&STYLES);
+    let whole = joined(&part, &events::stream(draw, &plan, style));
+    let mut inputs = Vec::new();
+    for place in 0..whole.len() {
+        // The mark and the events less often.
+        if place < part.len() || draw.one_in(4) {
+            let mut bytes = whole.clone();
+            bytes[place] = damage::other_byte(draw, bytes[place]);
+            inputs.push(input(&format!("byte {place} changed"), bytes));
+        }
+    }
+    inputs
+}
+
+/// A file cut at each length, with and without a mark after it; a whole input cut at some lengths.
+fn each_cut(draw: &mut Draw) -> Vec<Input> {
+    let plan = small_good(draw);
+    let part = plan.to_bytes();
+    let stream = events::stream(draw, &plan, Style::Good);
+    let mut inputs = Vec::new();
+    for length in 0..=part.len() {
+        let cut = part[..length].to_vec();
+        inputs.push(input(&format!("plan cut at {length}, no mark"), cut));
+        if length % RECORD == 0 || draw.one_in(8) {
+            let bytes = joined(&part[..length], &stream);
+            let what = format!("plan cut at {length}, then the mark and events");
+            inputs.push(input(&what, bytes));
+        }
+    }
+    let whole = joined(&part, &stream);
+    for length in part.len()..whole.len() {
+        if draw.one_in(4) {
+            let cut = whole[..length].to_vec();
+            inputs.push(input(&format!("input cut at {length}"), cut));
+        }
+    }
+    inputs
+}
+
+fn moved(draw: &mut Draw) -> Vec<Input> {
+    let plan = small_good(draw);
+    let mut inputs = Vec::new();
+    for _ in 0..8 {
+        let mut part = plan.to_bytes();
+        for _ in 0..1 + draw.below(2) {
+            damage::move_records(draw, &mut part);
+        }
+        let events = events_for(draw, &part, &plan);
+        inputs.push(input("records moved", joined(&part, &events)));
+    }
+    inputs
+}
+
+fn aimed(draw: &mut Draw) -> Vec<Input> {
+    let plan = if draw.one_in(20) {
+        plans::full(draw)
+    } else {
+        small_good(draw)
+    };
+    let mut inputs = Vec::new();
+    for _ in 0..8 {
+        let mut part = plan.to_bytes();
+        for _ in 0..1 + draw.below(3) {
+            damage::aim(draw, &mut part);
+        }
+        let events = events_for(draw, &part, &plan);
+        inputs.push(input("records spoiled", joined(&part, &events)));
+    }
+    inputs
+}
+
+/// No mark, a second mark, a mark first, a mark at no multiple of 16, nearly a mark, no input.
+fn marks(draw: &mut Draw) -> Vec<Input> {
+    let plan = small_good(draw);
+    let part = plan.to_bytes();
+    let stream = events::stream(draw, &plan, Style::Good);
+    let mut nearly = MARK;
+    nearly[draw.below(RECORD)] = draw.pick(&[254, 0]);
+    let cut = draw.below(stream.len() / RECORD + 1) * RECORD;
+    let length = 1 + draw.below(RECORD - 1);
+    let shift = tail(draw, length);
+    let more_marks = MARK.repeat(1 + draw.below(3));
+    vec![
+        input("no input", Vec::new()),
+        input("no mark, plan only", part.clone()),
+        input("no mark, events at once", [&part[..], &stream].concat()),
+        input("mark first", [&MARK[..], &part, &MARK, &stream].concat()),
+        input("mark only", MARK.to_vec()),
+        input(
+            "a second mark among the events",
+            [&part[..], &MARK, &stream[..cut], &MARK, &stream[cut..]].concat(),
+        ),
+        input(
+            "marks after the mark",
+            [&part[..], &MARK, &more_marks, &stream].concat(),
+        ),
+        input(
+            "nearly a mark",
+            [&part[..], &nearly, &MARK, &stream].concat(),
+        ),
+        input(
+            "nearly a mark and no other",
+            [&part[..], &nearly, &stream].concat(),
+        ),
+        input(
+            "mark at no multiple of 16",
+            [&part[..], &shift, &MARK, &stream].concat(),
+        ),
+        input(
+            "marks at no multiple of 16",
+            [&part[..], &shift, &MARK, &MARK, &stream].concat(),
+        ),
+    ]
+}
+
+/// An unfinished last record of each length, after the mark and without one.
+fn each_tail(draw: &mut Draw) -> Vec<Input> {
+    let plan = small_good(draw);
+    let part = plan.to_bytes();
+    let mut inputs = Vec::new();
+    for length in 1..RECORD {
+        let style = draw.pick(&STYLES);
+        let stream = events::stream(draw, &plan, style);
+        let rest = tail(draw, length);
+        let what = format!("unfinished last record of {length} bytes");
+        let bytes = [&part[..], &MARK, &stream, &rest].concat();
+        inputs.push(input(&what, bytes));
+        let what = format!("{length} bytes of a plan record, no mark");
+        inputs.push(input(&what, [&part[..], &rest].concat()));
+    }
+    inputs
+}
+
+/// Plan parts longer than 360 records, by one and by far.
+fn long_parts(draw: &mut Draw) -> Vec<Input> {
+    let plan = small_good(draw);
+    let part = if draw.one_in(2) {
+        plans::full(draw).to_bytes()
+    } else {
+        plan.to_bytes()
+    };
+    let stream = events::stream(draw, &plan, Style::Good);
+    let mut inputs = Vec::new();
+    let far = draw.pick(&[400, 720, 1_000, 4_095, 4_096, 4_097, 20_000]);
+    for count in [ROOM - 1, ROOM, ROOM + 1, ROOM + 2, far] {
+        let any = draw.byte();
+        let filler = draw.pick(&[0, 1, 3, 254, any]);
+        let mut long = part.clone();
+        long.resize(count * RECORD, filler);
+        let what = format!("plan part of {count} records");
+        inputs.push(input(&what, joined(&long, &stream)));
+        if draw.one_in(2) {
+            inputs.push(input(&format!("{what}, no mark"), long.clone()));
+        }
+        let length = 1 + draw.below(RECORD - 1);
+        long.extend(tail(draw, length));
+        let what = format!("{what} and {length} bytes, no mark");
+        inputs.push(input(&what, long));
+    }
+    inputs
+}
+
+/// Streams much longer than a run: event numbers of many digits.
+fn many_events(draw: &mut Draw) -> Vec<Input> {
+    let plan = small_good(draw);
+    // Noise to a board that stays open, or to one at the end of its run.
+    let style = draw.pick(&[Style::Mixed, Style::Noise]);
+    let mut stream = events::stream(draw, &plan, style);
+    let count = draw.pick(&[101, 120, 300, 1_001, 1_001, 10_002]);
+    let fresh = oracle::board::Board::fresh();
+    while stream.len() < count * RECORD {
+        stream.extend(events::noise(draw, &plan, &fresh));
+    }
+    let what = format!("{count} events");
+    vec![input(&what, joined(&plan.to_bytes(), &stream))]
+}

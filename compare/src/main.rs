@@ -1,0 +1,216 @@
+//! Compares two printing programs of document 01 on drawn inputs: compare SEED MINUTES THEIRS OURS...
+//! Started by compare/run from the folder above.
+
+mod count;
+mod damage;
+mod draw;
+mod events;
+mod inputs;
+mod plans;
+mod programs;
+mod smaller;
+
+use count::Count;
+use draw::Draw;
+use inputs::Input;
+use programs::{Both, Shown, Way};
+use std::io;
+use std::path::{Path, PathBuf};
+use std::process::ExitCode;
+use std::sync::atomic::{AtomicBool, AtomicU64, Ordering};
+use std::sync::Mutex;
+use std::thread;
+use std::time::{Duration, Instant};
+
+/// Where inputs are kept on which the programs differ.
+const KEPT: &str = "compare/kept";
+
+fn main() -> ExitCode {
+    let words: Vec<String> = std::env::args().collect();
+    let numbers = match &words[..] {
+        [_, seed, minutes, _, _, ..] => seed.parse().ok().zip(minutes.parse().ok()),
+        _ => None,
+    };
+    let Some((seed, minutes)) = numbers.filter(|&(_, minutes)| (0.0..=1e6).contains(&minutes))
+    else {
+        eprintln!("usage: compare SEED MINUTES THEIRS OURS...");
+        return ExitCode::from(2);
+    };
+    let both = Both {
+        ours: words[4..].to_vec(),
+        theirs: words[3].clone(),
+        scratch: scratch(0),
+    };
+    programs::watch();
+    let same = compare(&both, seed, Duration::from_secs_f64(minutes * 60.0));
+    // It is there only if an input was read from it.
+    let _ = std::fs::remove_file(&both.scratch);
+    match same {
+        Ok(true) => ExitCode::SUCCESS,
+        Ok(false) => ExitCode::FAILURE,
+        Err(error) => {
+            eprintln!("compare: {error}");
+            ExitCode::from(2)
+        }
+    }
+}
+
+/// The file from which a worker gives inputs.
+fn scratch(worker: usize) -> PathBuf {
+    let name = format!("compare-{}-{worker}.input", std::process::id());
+    std::env::temp_dir().join(name)
+}
+
+/// An input on which the programs differ: number `k` of its batch.
+struct Found {
+    batch: u64,
+    k: usize,
+    input: Input,
+    way: Way,
+}
+
+/// What the workers share.
+struct Shared {
+    seed: u64,
+    until: Instant,
+    next_batch: AtomicU64,
+    compared: AtomicU64,
+    stop: AtomicBool,
+    count: Mutex<Count>,
+}
+
+/// Compares until the time is over or a difference is found; is all well?
+fn compare(both: &Both, seed: u64, time: Duration) -> io::Result<bool> {
+    println!("seed {seed}");
+    let start = Instant::now();
+    let shared = Shared {
+        seed,
+        until: start + time,
+        next_batch: AtomicU64::new(0),
+        compared: AtomicU64::new(0),
+        stop: AtomicBool::new(false),
+        count: Mutex::new(Count::default()),
+    };
+    let workers = thread::available_parallelism().map_or(1, usize::from);
+    let results: Vec<io::Result<Option<Found>>> = thread::scope(|scope| {
+        let start = |worker| {
+            let mut both = both.clone();
+            both.scratch = scratch(worker);
+            let shared = &shared;
+            scope.spawn(move || {
+                let result = work(&both, shared);
+                if !matches!(result, Ok(None)) {
+                    shared.stop.store(true, Ordering::Relaxed);
+                }
+                // It is there only if an input was read from it.
+                let _ = std::fs::remove_file(&both.scratch);
+                result
+            })
+        };
+        let started: Vec<_> = (1..=workers).map(start).collect();
+        let join = |worker: thread::ScopedJoinHandle<_>| worker.join().expect("no worker fails");
+        started.into_iter().map(join).collect()
+    });
+    let compared = shared.compared.into_inner();
+    for result in results {
+        if let Some(found) = result? {
+            println!("a difference, after {compared} inputs");
+            tell(both, seed, &found)?;
+            return Ok(false);
+        }
+    }
+    let seconds = start.elapsed().as_secs_f64();
+    let rate = compared as f64 / seconds;
+    println!("{compared} inputs the same, {seconds:.0} seconds, {rate:.0} a second");
+    let count = shared.count.into_inner().expect("no worker fails");
+    let (missing, strange) = count.print();
+    for key in &missing {
+        println!("never came up: {key}");
+    }
+    for key in &strange {
+        println!("cannot come up, but did: {key}");
+    }
+    Ok(missing.is_empty() && strange.is_empty())
+}
+
+/// Takes batch after batch, until the time is over, a difference is found or another worker says stop.
+fn work(both: &Both, shared: &Shared) -> io::Result<Option<Found>> {
+    while Instant::now() < shared.until {
+        let batch = shared.next_batch.fetch_add(1, Ordering::Relaxed);
+        let mut draw = Draw::new(shared.seed, batch);
+        let mut count = Count::default();
+        for (k, input) in inputs::batch(&mut draw, batch).into_iter().enumerate() {
+            if shared.stop.load(Ordering::Relaxed) {
+                return Ok(None);
+            }
+            let way = match draw.below(12) {
+                0 => Way::File,
+                1 if input.bytes.len() <= 1_000 => Way::Pieces(1 + draw.below(20)),
+                2 => Way::Pieces(100 + draw.below(900)),
+                _ => Way::Pipe,
+            };
+            let (ours, theirs) = both.run(&input.bytes, way)?;
+            if programs::differ(&ours, &theirs) {
+                return Ok(Some(Found {
+                    batch,
+                    k,
+                    input,
+                    way,
+                }));
+            }
+            count.add(&ours.bytes);
+            shared.compared.fetch_add(1, Ordering::Relaxed);
+        }
+        shared.count.lock().expect("no worker fails").join(count);
+    }
+    Ok(None)
+}
+
+/// Keeps an input on which the programs differ, makes it smaller, and prints what each program says of it.
+fn tell(both: &Both, seed: u64, found: &Found) -> io::Result<()> {
+    let Found {
+        batch,
+        k,
+        input,
+        way,
+    } = found;
+    std::fs::create_dir_all(KEPT)?;
+    let whole = format!("{KEPT}/{seed}-{batch}-{k}.whole");
+    std::fs::write(Path::new(&whole), &input.bytes)?;
+    println!("made as: {}; given by {way:?}; kept in {whole}", input.what);
+    // Read from a file is the simplest way to see it again.
+    let way = if both.differ(&input.bytes, Way::File)? {
+        Way::File
+    } else {
+        println!("no difference when it is read from a file");
+        *way
+    };
+    let small = smaller::smaller(both, way, &input.bytes)?;
+    let file = format!("{KEPT}/{seed}-{batch}-{k}");
+    std::fs::write(Path::new(&file), &small)?;
+    println!(
+        "made smaller, from {} bytes to {}: {file}",
+        input.bytes.len(),
+        small.len()
+    );
+    for record in small.chunks(oracle::plan::RECORD) {
+        let bytes: Vec<String> = record.iter().map(|byte| format!("{byte:02x}")).collect();
+        println!("  {}", bytes.join(" "));
+    }
+    let (ours, theirs) = both.run(&small, way)?;
+    show("ours", &ours);
+    show("the independent program", &theirs);
+    println!(
+        "to see it: diff <(bin/sheet < {file}) <({} < {file})",
+        both.theirs
+    );
+    Ok(())
+}
+
+fn show(whose: &str, shown: &Shown) {
+    println!("{whose}, {}:", shown.ended);
+    print!("{}", String::from_utf8_lossy(&shown.bytes));
+    if !shown.bytes.ends_with(b"\n") {
+        println!("(no line feed at the end)");
+    }
+}

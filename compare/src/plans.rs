@@ -1,0 +1,322 @@
+//! Draws plans that a file can hold: of any size, with a run hidden in them, passing the plan test, stuck, and far out.
+
+use crate::draw::Draw;
+use oracle::plan::{Link, Ordinary, Plan, Wait, BOUND};
+use oracle::plan_test::{self, Answer};
+
+/// How many records of each kind to draw; fewer come where a plan has no room for them.
+#[derive(Clone, Copy)]
+pub struct Sizes {
+    pub points: usize,
+    pub links: usize,
+    pub ordinary: usize,
+    pub waits: usize,
+}
+
+/// The limits of document 01.
+pub const FULL: Sizes = Sizes {
+    points: 32,
+    links: 8,
+    ordinary: 256,
+    waits: 64,
+};
+
+impl Sizes {
+    /// A few records.
+    pub fn small(draw: &mut Draw) -> Sizes {
+        Sizes {
+            points: 1 + draw.below(6),
+            links: draw.below(3),
+            ordinary: draw.below(8),
+            waits: draw.below(3),
+        }
+    }
+
+    /// Anything up to the limits.
+    pub fn any(draw: &mut Draw) -> Sizes {
+        Sizes {
+            points: draw.edgy(1, 32) as usize,
+            links: draw.edgy(0, 8) as usize,
+            ordinary: draw.edgy(0, 256) as usize,
+            waits: draw.edgy(0, 64) as usize,
+        }
+    }
+}
+
+/// How large the numbers of a plan are.
+pub fn scale(draw: &mut Draw) -> i64 {
+    draw.pick(&[2, 5, 5, 20, 100, 3_000, BOUND])
+}
+
+/// Any plan: with `hidden`, some choice of minutes keeps all its ordinary records as far as their bounds can say so.
+pub fn any(draw: &mut Draw, sizes: Sizes, scale: i64, hidden: bool) -> Plan {
+    let mut order: Vec<usize> = (0..sizes.points).collect();
+    draw.shuffle(&mut order);
+    let watched = sizes.links.min(sizes.points.saturating_sub(1));
+    let (ends, starts) = order.split_at(watched);
+    let mut plan = Plan::default();
+    for _ in 0..sizes.points {
+        let pond = [0, 1, u32::MAX, draw.next() as u32];
+        plan.ponds.push(draw.pick(&pond));
+    }
+    for &c in ends {
+        let x = draw.edgy(1, scale.min(BOUND - 1));
+        let y = draw.edgy(x + 1, (x + scale).min(BOUND));
+        let a = draw.pick(starts);
+        plan.links.push(Link { a, x, y, c });
+    }
+    let mut minutes: Vec<i64> = (0..sizes.points)
+        .map(|_| draw.between(0, scale * 2))
+        .collect();
+    for link in &plan.links {
+        minutes[link.c] = minutes[link.a] + draw.edgy(link.x, link.y);
+    }
+    if sizes.points > 1 {
+        for _ in 0..sizes.ordinary {
+            let x = draw.below(sizes.points);
+            let y = (x + 1 + draw.below(sizes.points - 1)) % sizes.points;
+            let d = if hidden {
+                minutes[y] - minutes[x] + draw.edgy(0, scale)
+            } else {
+                draw.edgy(-scale, scale)
+            };
+            let d = d.clamp(-BOUND, BOUND);
+            plan.ordinary.push(Ordinary { x, d, y });
+        }
+    }
+    if !plan.links.is_empty() {
+        for _ in 0..sizes.waits {
+            let link = draw.pick(&plan.links);
+            let v = draw.pick(starts);
+            if v != link.a {
+                let w = draw.edgy(1, link.y);
+                plan.waits.push(Wait { v, c: link.c, w });
+            }
+        }
+    }
+    plan
+}
+
+/// A plan of any size whose runs go on for long: an order of the points is hidden in it, steps are short and upper
+/// bounds are far, most of them.
+pub fn roomy(draw: &mut Draw, sizes: Sizes) -> Plan {
+    let scale = draw.pick(&[2, 5, 20, 100]);
+    let mut plan = any(draw, sizes, scale, false);
+    let mut place: Vec<usize> = (0..sizes.points).collect();
+    draw.shuffle(&mut place);
+    for record in &mut plan.ordinary {
+        let (x, y) = (record.x, record.y);
+        let watched = plan.links.iter().any(|link| link.c == x);
+        record.d = if place[y] > place[x] || watched {
+            draw.edgy(BOUND / 2, BOUND)
+        } else {
+            draw.edgy(-scale, -1)
+        };
+        if draw.one_in(1_000) {
+            record.d = draw.between(0, scale * 40);
+        }
+    }
+    // A point that C comes before waits for C's A too, so A comes before it.
+    for record in &mut plan.ordinary {
+        let link = plan.links.iter().find(|link| link.c == record.y);
+        if link.is_some_and(|link| place[link.a] >= place[record.x]) {
+            record.d = BOUND;
+        }
+    }
+    let links = plan.links.clone();
+    plan.waits.retain(|wait| {
+        let link = links.iter().find(|link| link.c == wait.c);
+        link.is_some_and(|link| place[wait.v] > place[link.a])
+    });
+    plan
+}
+
+/// A full plan: every kind at its limit.
+pub fn full(draw: &mut Draw) -> Plan {
+    loop {
+        let mut plan = if draw.one_in(3) {
+            let scale = scale(draw);
+            any(draw, FULL, scale, true)
+        } else {
+            roomy(draw, FULL)
+        };
+        let drawn = plan.waits.clone();
+        while !drawn.is_empty() && plan.waits.len() < FULL.waits {
+            plan.waits.push(draw.pick(&drawn));
+        }
+        if plan.records() == oracle::plan::ROOM {
+            return plan;
+        }
+    }
+}
+
+/// The haul of document 01, as it stands or with numbers changed a little.
+pub fn haul(draw: &mut Draw) -> Plan {
+    let mut plan = Plan {
+        ponds: vec![0, 0, 7, 0],
+        links: vec![Link {
+            a: 1,
+            x: 20,
+            y: 50,
+            c: 2,
+        }],
+        ordinary: vec![
+            Ordinary { x: 1, d: -10, y: 0 },
+            Ordinary { x: 2, d: 5, y: 3 },
+            Ordinary { x: 3, d: 15, y: 2 },
+        ],
+        waits: vec![Wait { v: 3, c: 2, w: 35 }],
+    };
+    for _ in 0..draw.below(3) {
+        near_miss(draw, &mut plan);
+    }
+    plan
+}
+
+/// Changes one number by 1, or drops or doubles one ordinary record or wait. The plan stays one that a file can hold.
+pub fn near_miss(draw: &mut Draw, plan: &mut Plan) {
+    let by = draw.pick(&[-1, 1]);
+    match draw.below(5) {
+        0 if !plan.ordinary.is_empty() => {
+            let k = draw.below(plan.ordinary.len());
+            let d = &mut plan.ordinary[k].d;
+            *d = (*d + by).clamp(-BOUND, BOUND);
+        }
+        1 if !plan.ordinary.is_empty() => {
+            plan.ordinary.remove(draw.below(plan.ordinary.len()));
+        }
+        2 if !plan.waits.is_empty() => {
+            let k = draw.below(plan.waits.len());
+            let most = plan.link_of(&plan.waits[k]).y;
+            let w = &mut plan.waits[k].w;
+            *w = (*w + by).clamp(1, most);
+        }
+        3 if !plan.waits.is_empty() => {
+            plan.waits.remove(draw.below(plan.waits.len()));
+        }
+        4 if !plan.ordinary.is_empty() && plan.ordinary.len() < FULL.ordinary => {
+            let mut again = draw.pick(&plan.ordinary);
+            again.d = (again.d + by).clamp(-BOUND, BOUND);
+            plan.ordinary.push(again);
+        }
+        _ => {}
+    }
+}
+
+/// A small plan that passes the plan test, most with a link; it is looked for by adding what the test misses.
+pub fn passing(draw: &mut Draw) -> Plan {
+    loop {
+        let mut sizes = Sizes::small(draw);
+        if sizes.links == 0 && draw.one_in(2) {
+            sizes.links = 1;
+        }
+        sizes.points += 1;
+        let scale = draw.pick(&[2, 3, 5, 8]);
+        let plan = any(draw, sizes, scale, true);
+        if plan_test::projections(&plan).is_some_and(|count| count <= 50) {
+            if let Some(plan) = repaired(plan) {
+                return plan;
+            }
+        }
+    }
+}
+
+/// Adds a record or a wait for each pair that the test names; none if that leads nowhere.
+fn repaired(mut plan: Plan) -> Option<Plan> {
+    for _ in 0..16 {
+        let (number, x, y) = match plan_test::plan_test(&plan) {
+            Ok(Answer::Yes(_)) => return Some(plan),
+            Ok(Answer::Pair(number, x, y)) => (number, x, y),
+            _ => return None,
+        };
+        let mut rest = i64::from(number);
+        let mut durations: Vec<i64> = Vec::new();
+        for link in plan.links.iter().rev() {
+            let count = link.y - link.x + 1;
+            durations.push(link.x + rest % count);
+            rest /= count;
+        }
+        durations.reverse();
+        let edges = plan_test::edges(&plan, &durations);
+        let d = plan_test::distances(plan.points(), &edges, x).ok()?[y]?;
+        let started = plan
+            .links
+            .iter()
+            .find(|link| link.a == y && d < 0 && -d <= link.y);
+        match started {
+            Some(link) if !plan.watched(x) => {
+                let c = link.c;
+                plan.waits.push(Wait { v: x, c, w: -d });
+            }
+            _ => plan.ordinary.push(Ordinary { x, d, y }),
+        }
+    }
+    None
+}
+
+/// A chain whose steps are long: the clock goes as far as it can go.
+pub fn chain(draw: &mut Draw) -> Plan {
+    let points = 2 + draw.below(31);
+    let mut plan = Plan {
+        ponds: vec![0; points],
+        ..Plan::default()
+    };
+    for y in 0..points - 1 {
+        let x = y + 1;
+        let step = draw.edgy(BOUND - 2, BOUND);
+        plan.ordinary.push(Ordinary { x, d: -step, y });
+        if draw.one_in(3) {
+            let d = draw.edgy(step, BOUND);
+            plan.ordinary.push(Ordinary { x: y, d, y: x });
+        }
+    }
+    plan
+}
+
+/// A plan that gets stuck, at once or later: a cycle of negative sum behind a few free points, or a High below zero.
+pub fn stuck(draw: &mut Draw) -> Plan {
+    let free = draw.below(4);
+    let mut plan = Plan {
+        ponds: vec![0; free + 2],
+        ..Plan::default()
+    };
+    let (v, u) = (free, free + 1);
+    let d = draw.between(1, 9);
+    match draw.below(3) {
+        0 => {
+            plan.ordinary.push(Ordinary { x: v, d: -d, y: u });
+            plan.ordinary.push(Ordinary { x: u, d: -d, y: v });
+        }
+        1 => {
+            plan.ordinary.push(Ordinary { x: v, d: -d, y: u });
+            plan.ordinary.push(Ordinary {
+                x: u,
+                d: d - 1,
+                y: v,
+            });
+        }
+        _ => {
+            // Two free points after the watched one: its record to v puts High below zero.
+            plan.ponds.push(0);
+            let x = draw.between(1, 5);
+            plan.links.push(Link {
+                a: v,
+                x,
+                y: x + draw.between(1, 5),
+                c: u,
+            });
+            let d = draw.pick(&[-BOUND, -x - 20, -x - 1, -x, -x + 1]);
+            plan.ordinary.push(Ordinary {
+                x: u,
+                d,
+                y: free + 2,
+            });
+        }
+    }
+    for x in 0..free {
+        if draw.one_in(2) {
+            plan.ordinary.push(Ordinary { x: v, d: -1, y: x });
+        }
+    }
+    plan
+}

@@ -1,6 +1,5 @@
 -- The modules of proofs that belong to no one function. Other crates cite the ones that are `pub`.
 mod Cases
-pub mod Records
 mod Linking
 mod Walks
 mod Broken

@@ -11,7 +11,7 @@ use lib.ListN.{length, take, getD, set, length-set, replicate, length-replicate,
 use lib.Seq.{set-getD, getD-set-same, getD-set-other}
 use borrow.Author.Tests.{eqb-true, eq-eqb, ne-eqb, lt-ltb, ltb-true, ltb-false}
 use Rattle.points.specs.Sets.{member, withOf}
-use Rattle.points.specs.Laws.{member-empty, member-with, with-fits, with-past}
+use Rattle.points.proofs.Laws.{member-empty, member-with, with-fits, with-past}
 use Rattle.plan.specs.Choice.{if_then_else_}
 use Rattle.plan.specs.Limits.{mostPoints}
 use Rattle.plan.specs.APlan.{link, is, some, endsAt, watched, firstThat, linkTo, blank}
@@ -19,7 +19,7 @@ use Rattle.plan.specs.declared.Record.{Record}
 use Rattle.board.specs.Inside.{endIn, noEnd, endOf, watchedAfter, endAfter, LinksOf}
 use Rattle.board.specs.declared.links.End.{End}
 use Rattle.board.specs.declared.links.Links.{Links}
-use Rattle.board.proofs.Records.{some-snoc, first-not, first-old, first-so, one-more}
+use Rattle.plan.proofs.Records.{some-snoc, first-not, first-old, first-so, one-more}
 
 abbrev pub linksAs : ℕ → List End → Links
 linksAs s ends = record { watched = s; ends = ends }

@@ -6,7 +6,7 @@ use native.Mathlib.Omega.{arith}
 use lib.Bits.{bitOr, bitXor, or-step, xor-step, or-shr, xor-shr, or-lt, xor-lt}
 use lib.Dec.{eqb}
 use Rattle.points.specs.Sets.{member}
-use Rattle.board.specs.Inside2.{Minus}
+use Rattle.board.specs.InsideReplies.{Minus}
 
 -- one bit
 lowest : (x y : ℕ) → eqb (bitXor (bitOr x y) y % 2) 1 ≡ (eqb (x % 2) 1 && not (eqb (y % 2) 1))

@@ -11,7 +11,7 @@ use lib.Dec.{ltb}
 use lib.IntN.{ℤ, pos, negsuc}
 use lib.ListN.{length, getD}
 use Rattle.points.specs.Sets.{member, membersOf, belowOf, passing, from, every}
-use Rattle.points.specs.Laws.{Turn, members-empty, member-below, count-le}
+use Rattle.points.proofs.Laws.{Turn, members-empty, member-below, count-le}
 use Rattle.plan.specs.Choice.{if_then_else_}
 use Rattle.plan.specs.Limits.{mostPoints}
 use Rattle.plan.specs.APlan.{point, link, ordinary, wait, is, some, points, watched, gapOf, blank}
@@ -19,7 +19,7 @@ use Rattle.plan.proofs.Accepted.{Rules, Accepted}
 use Rattle.plan.specs.declared.Record.{Record}
 use Rattle.board.specs.Boards.{isDone}
 use Rattle.board.specs.Windows.{shuts, never, isOpen, high, leastHigh, H}
-use Rattle.board.specs.Inside2.{Near, Small, TablesOf, Minus, leastAt}
+use Rattle.board.specs.InsideReplies.{Near, Small, TablesOf, Minus, leastAt}
 use Rattle.board.proofs.Theorems.Each.{either}
 use Rattle.board.proofs.Theorems.Soundness.{Sound}
 use Rattle.board.proofs.Windowing.{timed, Fine}

@@ -11,7 +11,7 @@ use lib.Dec.{lit<, ltb}
 use lib.ListN.{length, getD, set, replicate, length-set, length-map, length-replicate}
 use lib.Seq.{getD-set-same, getD-set-other, ext-getD}
 use Rattle.points.specs.Sets.{member, membersOf, passing, from, every}
-use Rattle.points.specs.Laws.{member-empty, same-members, count-le}
+use Rattle.points.proofs.Laws.{member-empty, same-members, count-le}
 use Rattle.plan.specs.Limits.{mostPoints, farthest}
 use Rattle.plan.specs.APlan.{some, watched, recordsOf}
 use Rattle.plan.specs.ReplyNumbers.{checkOf}
@@ -22,7 +22,7 @@ use Rattle.board.specs.Boards.{each, sound}
 use Rattle.board.specs.Windows.{isOpen, low, H, someOpen, allAbove}
 use Rattle.board.specs.Replies.{finished, stuck, outcomeOf, latest, stateOf, shut, bare, offer, soundReply, replyOf}
 use Rattle.board.specs.Inside.{LinksOf}
-use Rattle.board.specs.Inside2.{lastMinute, WindowsOf, stateFrom, placeFrom, offerFrom}
+use Rattle.board.specs.InsideReplies.{lastMinute, WindowsOf, stateFrom, placeFrom, offerFrom}
 use Rattle.board.proofs.Theorems.Each.{every-point, point-every}
 use Rattle.board.proofs.Theorems.Soundness.{Sound}
 use Rattle.board.specs.declared.Board.{Board}

@@ -19,7 +19,7 @@ use Rattle.board.specs.Windows.{isOpen, low, someOpen}
 use Rattle.board.specs.Replies.{finished, stuck, latest}
 use Rattle.board.specs.Events.{eventMinute, eventPoint, eventSet, noPoint, wellFormed, endsRunning, inTime, eventNumber, boardAfter, taken}
 use Rattle.board.specs.Inside.{LinksOf, eventIn, formedFor, runsAt, timelyAt, setNumber, pointNumber, pointFrom, afterEvent, takenNext}
-use Rattle.board.specs.Inside2.{WindowsOf}
+use Rattle.board.specs.InsideReplies.{WindowsOf}
 use Rattle.board.specs.declared.Board.{Board}
 use Rattle.board.specs.declared.links.Links.{Links}
 use Rattle.board.specs.declared.windows.Windows.{Windows}

@@ -9,7 +9,7 @@ use native.Mathlib.Numerals.{add-one}
 use lib.ListN.{length, drop, getD, set, drop-of-length-le}
 use lib.Seq.{drop-cons, set-out}
 use Rattle.points.specs.Sets.{membersOf, withOf, from, every}
-use Rattle.points.specs.Laws.{Turn, members-empty, with-past}
+use Rattle.points.proofs.Laws.{Turn, members-empty, with-past}
 use Rattle.plan.specs.APlan.{blank}
 use Rattle.plan.specs.declared.Record.{Record}
 use Rattle.board.specs.Boards.{minute, each, largest}

@@ -11,7 +11,7 @@ use lib.Dec.{eqb, ltb}
 use lib.ListN.{length, take, getD, set, replicate, length-set, length-replicate, getD-replicate}
 use lib.Seq.{getD-set-same, getD-set-other}
 use Rattle.points.specs.Sets.{member, withOf}
-use Rattle.points.specs.Laws.{member-empty, member-small, member-with, with-fits}
+use Rattle.points.proofs.Laws.{member-empty, member-small, member-with, with-fits}
 use Rattle.plan.specs.Choice.{if_then_else_}
 use Rattle.plan.specs.Limits.{mostPoints}
 use Rattle.plan.specs.APlan.{link, ordinary, wait, is, some, watched, endsAt, linkTo, gapOf, blank}
@@ -20,8 +20,8 @@ use Rattle.plan.proofs.Accepted.{first-found}
 use Rattle.board.specs.Boards.{isDone, minute, running}
 use Rattle.board.specs.Windows.{shuts, earliest, greatest, bound, least, never}
 use Rattle.board.specs.Inside.{noEnd, endOf, LinksOf}
-use Rattle.board.specs.Inside2.{saysOf, TablesOf}
-use Rattle.board.proofs.Records.{some-snoc, one-more}
+use Rattle.board.specs.InsideReplies.{saysOf, TablesOf}
+use Rattle.plan.proofs.Records.{some-snoc, one-more}
 use Rattle.board.proofs.Theorems.Each.{both}
 use Rattle.board.specs.declared.Board.{Board}
 use Rattle.board.specs.declared.links.End.{End}

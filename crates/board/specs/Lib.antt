@@ -5,4 +5,4 @@ pub mod Replies
 pub mod Events
 pub mod Verdicts
 pub mod Inside
-pub mod Inside2
+pub mod InsideReplies

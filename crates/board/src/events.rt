@@ -11,7 +11,7 @@ ghost use Rattle.plan.specs.PlanFile.{wordAt};
 ghost use Rattle.board.specs.Boards.{each};
 ghost use Rattle.board.specs.Events.{notLate, markAll, eventNumber, taken, takeOf};
 ghost use Rattle.board.specs.Inside.{LinksOf, eventIn, formedFor, runsAt, timely, timelyAt, setNumber, pointFrom, clockAt, afterEvent, takenNext};
-ghost use Rattle.board.specs.Inside2.{Ready};
+ghost use Rattle.board.specs.InsideReplies.{Ready};
 use crate::ALL_DONE;
 use crate::BEFORE_CLOCK;
 use crate::Board;

@@ -11,7 +11,7 @@ ghost use Rattle.plan.specs.APlan.{recordsOf, some};
 ghost use Rattle.plan.specs.ReplyNumbers.{checkOf};
 ghost use Rattle.board.specs.Boards.{sound, running};
 ghost use Rattle.board.specs.Replies.{finished, stuck, bare, soundReply, replyOf};
-ghost use Rattle.board.specs.Inside2.{lastMinute, WindowsOf, stateFrom, offerFrom};
+ghost use Rattle.board.specs.InsideReplies.{lastMinute, WindowsOf, stateFrom, offerFrom};
 use crate::Board;
 use crate::FARTHEST;
 use crate::Outcome;

@@ -6,7 +6,7 @@ ghost use Prim.Native.Nat.{_-_, _≤_, max, min};
 ghost use Rattle.points.specs.Sets.{withOf, membersOf};
 ghost use Rattle.plan.specs.Choice.{if_then_else_};
 ghost use Rattle.plan.specs.APlan.{recordsOf};
-ghost use Rattle.board.specs.Inside2.{lastMinute, Near, Ready, ordinarySays, waitSays, saysOf, Small, TablesOf, WindowsOf, Minus, leastAt};
+ghost use Rattle.board.specs.InsideReplies.{lastMinute, Near, Ready, ordinarySays, waitSays, saysOf, Small, TablesOf, WindowsOf, Minus, leastAt};
 use crate::Board;
 use crate::FARTHEST;
 use crate::ROOM;

@@ -4,7 +4,7 @@ use mathlib.Core.Path.{_≡_, refl}
 use native.Mathlib.Omega.{arith}
 use Rattle.network.specs.Walks.{Walk, nil, step, Vee, vee}
 use Rattle.network.specs.Passing.{Dispatchable}
-use Rattle.network.specs.Laws.{vee-walk, lighter}
+use Rattle.network.proofs.Laws.{vee-walk, lighter}
 use Rattle.network.proofs.States.{State, Done, Undone, clash, Invariant, Change, same, fresh, still, undone-before}
 use Rattle.network.proofs.Deadlines.{upward, Held, deadline}
 

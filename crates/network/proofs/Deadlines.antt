@@ -5,7 +5,7 @@ use mathlib.Core.Logic.{inl, inr}
 use native.Mathlib.Omega.{arith}
 use Rattle.network.specs.Walks.{Walk, nil, step, Negative, NonNegative, Vee, vee}
 use Rattle.network.specs.Passing.{Dispatchable}
-use Rattle.network.specs.Laws.{lighter}
+use Rattle.network.proofs.Laws.{lighter}
 use Rattle.network.proofs.States.{State, Done, Undone, ask, clash, Invariant}
 
 module _ (E : ℕ → ℕ → ℕ → ℕ → Type 0) where

@@ -5,7 +5,7 @@ use mathlib.Core.Logic.{_⊎_, inl, inr}
 use native.Mathlib.Omega.{arith}
 use Rattle.network.specs.Walks.{Walk, nil, step}
 use Rattle.network.specs.Passing.{Consistent}
-use Rattle.network.specs.Laws.{append}
+use Rattle.network.proofs.Laws.{append}
 use Rattle.network.proofs.States.{State, Done, Undone, ask, clash, Invariant}
 use Rattle.network.proofs.Changes.{Free}
 use Rattle.network.proofs.Search.{all-or-one, Next, no-descent}

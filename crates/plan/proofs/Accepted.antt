@@ -22,7 +22,8 @@ use Rattle.plan.specs.declared.Plan.{Plan}
 use Rattle.plan.specs.declared.Refusal.{Refusal}
 use Rattle.plan.proofs.Passed.{Passed, passed}
 use Rattle.plan.proofs.Entries as Entries
-use Rattle.plan.proofs.Shows.{both, last-snoc, many-snoc, some-snoc, first-not, first-so, kind-byte}
+use Rattle.plan.proofs.Records.{last-snoc, many-snoc, some-snoc, first-not, first-so}
+use Rattle.plan.proofs.Shows.{both, kind-byte}
 
 -- what the record r, one of rs, keeps
 pub record Rules (rs : List Record) (r : Record) : Type 0 where

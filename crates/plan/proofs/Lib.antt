@@ -2,6 +2,7 @@
 mod Signed
 mod ByKind
 pub mod Passed
+pub mod Records
 mod Shows
 mod Sofar
 pub mod Words

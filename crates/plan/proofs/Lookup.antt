@@ -1,30 +1,20 @@
--- The loops that look something up in a plan: the records that they pass, how many are so, and the first that is so.
+-- The loops that look something up in a plan: how many records are so, and the first that is so.
 -- Assumes nothing.
 use mathlib.Core.Path.{_≡_, refl}
 use mathlib.Core.Bool.{Bool, true, false, _||_}
 use mathlib.Core.List.{List, [], _∷_}
-use Prim.Native.Nat.{ℕ, suc, _+_, _≤_, _<_, min}
+use Prim.Native.Nat.{ℕ, suc, _+_, _≤_, _<_}
 use native.Mathlib.Omega.{arith}
 use native.Mathlib.Numerals.{add-one}
 use lib.ListN.{length, take, drop, getD, length-take, drop-of-length-le}
-use lib.Seq.{take-suc, drop-cons, getD-take, take-all}
+use lib.Seq.{take-suc, drop-cons, take-all}
 use Rattle.plan.specs.Choice.{if_then_else_}
-use Rattle.plan.specs.Limits.{mostRecords}
-use Rattle.plan.specs.APlan.{blank, one, howMany, some, placeFrom, recordsOf}
-use Rattle.plan.proofs.Shows.{many-snoc}
+use Rattle.plan.specs.APlan.{blank, one, howMany, some, placeFrom}
+use Rattle.plan.proofs.Records.{many-snoc}
 use Rattle.plan.proofs.Sofar.{many-le}
 use Rattle.plan.specs.declared.Record.{Record}
-use Rattle.plan.specs.declared.Plan.{Plan}
 use Rattle.plan.specs.declared.Found.{Found}
 use Rattle.plan.specs.declared.Found.the-variants.{At, Nothing}
-
-module _ (p : Plan) (room : length (p .records) ≡ mostRecords) where
-  -- a plan has as many records as its count says and its room holds
-  pub used-records : length (recordsOf p) ≡ min (p .count) mostRecords
-  used-records = rw room at (length-take (p .count) (p .records))
-
-  pub record-at : (i : ℕ) → i < min (p .count) mostRecords → getD (recordsOf p) i blank ≡ getD (p .records) i blank
-  record-at i h = getD-take (p .count) (p .records) i blank (omega arith)
 
 -- how many of the first i records are so
 module _ (so : Record → Bool) (rs : List Record) (i : ℕ) where

@@ -10,7 +10,7 @@ use borrow.Author.Tests.{ltb-true, eqb-true, eq-eqb, ne-eqb}
 use native.Mathlib.Decide.{ℕ-discrete}
 use lib.Seq.{set-getD, getD-set-same, getD-set-other}
 use Rattle.points.specs.Sets.{member, withOf}
-use Rattle.points.specs.Laws.{member-with, member-empty}
+use Rattle.points.proofs.Laws.{member-with, member-empty}
 use Rattle.plan.specs.Choice.{if_then_else_}
 use Rattle.plan.specs.Limits.{mostPoints}
 use Rattle.plan.specs.APlan.{Kind, point, link, ordinary, wait, unknown, kindOf, byteOf, is, one, howMany, some, points, starts, watched, startsAt, endsAt, firstThat, linkTo}
@@ -18,6 +18,7 @@ use Rattle.plan.specs.ReplyNumbers.{Before, after, isKnown, lastKind, in
 use Rattle.plan.specs.Inside.{told, noEnding, fresh, withRecord, endingAfter}
 use Rattle.plan.proofs.ByKind.{is-unknown}
 use Rattle.plan.proofs.Passed.{Passed, passed}
+use Rattle.plan.proofs.Records.{last-snoc, many-snoc, some-snoc, first-not, first-so}
 use Rattle.plan.specs.declared.Record.{Record}
 use Rattle.plan.specs.declared.rules.Seen.{Seen}
 use Rattle.plan.specs.declared.rules.Ending.{Ending}
@@ -111,45 +112,6 @@ module _ (rs : List Record) (s : Seen) (ends : List Ending) (w : Shows rs s ends
   -- what is kept gives a record the number that the records before it give it
   pub same-number : numberOf (told s (getD ends (r .b % mostPoints) noEnding)) r z ≡ numberOf (after rs) r z
   same-number = same (kindOf (r .kind))
-
--- ---- one record more
-
-pub last-snoc : (k : ℕ) (rs : List Record) (r : Record) → lastKind k (rs ++ (r ∷ [])) ≡ r .kind
-unfolding lastKind
-last-snoc k [] r = refl
-last-snoc k (x ∷ rs) r = last-snoc (x .kind) rs r
-
-pub many-snoc : (so : Record → Bool) (rs : List Record) (r : Record) → howMany so (rs ++ (r ∷ [])) ≡ howMany so rs + one (so r)
-unfolding howMany
-many-snoc so [] r = omega arith
-many-snoc so (x ∷ rs) r = omega (arith, many-snoc so rs r)
-
-or-swap : (a b c : Bool) → (a || (b || c)) ≡ (b || (a || c))
-or-swap true true c = refl
-or-swap true false c = refl
-or-swap false true c = refl
-or-swap false false c = refl
-
-pub some-snoc : (so : Record → Bool) (rs : List Record) (r : Record) → some so (rs ++ (r ∷ [])) ≡ (so r || some so rs)
-unfolding some
-some-snoc so [] r = refl
-some-snoc so (x ∷ rs) r = rw (some-snoc so rs r) (or-swap (so x) (so r) (some so rs))
-
--- a record that is not so changes nothing for the first that is; one that is so is the first where none was before
-pub first-not : (so : Record → Bool) (rs : List Record) (r : Record) → so r ≡ false → firstThat so (rs ++ (r ∷ [])) ≡ firstThat so rs
-unfolding firstThat
-first-not so [] r h = rw h
-first-not so (x ∷ rs) r h = rw (first-not so rs r h)
-
-pub first-so : (so : Record → Bool) (rs : List Record) (r : Record) → some so rs ≡ false → so r ≡ true → firstThat so (rs ++ (r ∷ [])) ≡ r
-unfolding firstThat some
-first-so so [] r h e = rw e
-first-so so (x ∷ rs) r h e = by-test (so x) h (first-so so rs r)
-  where
-    by-test : (b : Bool) → (b || some so rs) ≡ false → (some so rs ≡ false → so r ≡ true → firstThat so (rs ++ (r ∷ [])) ≡ r)
-        → (if b then x else firstThat so (rs ++ (r ∷ []))) ≡ r
-    by-test true h f = absurd (let z : _≡_ {A = ℕ} 0 1 = cc in omega arith)
-    by-test false h f = f h e
 
 -- the kind of a record is the byte of that kind
 pub kind-byte : (x : ℕ) (k : Kind) → isKnown k ≡ true → kindOf x ≡ k → x ≡ byteOf k

@@ -5,5 +5,6 @@ pub mod Limits
 pub mod APlan
 pub mod PlanFile
 pub mod ReplyNumbers
+pub mod Haul
 pub mod Held
 pub mod Inside

@@ -1,4 +1,2 @@
+-- What a reader has to believe of sets of points. No proofs are here.
 pub mod Sets
-mod Bits
-mod Lists
-pub mod Laws

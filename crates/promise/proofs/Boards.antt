@@ -11,7 +11,7 @@ use lib.Dec.{eqb, ltb}
 use lib.ListN.{length, getD}
 use borrow.Author.Tests.{lt-ltb, eqb-true, eq-eqb, not-true}
 use Rattle.points.specs.Sets.{from}
-use Rattle.points.specs.Laws.{member-past}
+use Rattle.points.proofs.Laws.{member-past}
 use Rattle.plan.specs.Choice.{if_then_else_}
 use Rattle.plan.specs.Limits.{mostPoints, farthest}
 use Rattle.plan.specs.APlan.{Kind, link, ordinary, wait, is, some, points, watched, linkTo, blank, gapOf}

@@ -9,7 +9,7 @@ use lib.Dec.{eqb}
 use lib.ListN.{getD}
 use borrow.Author.Tests.{eqb-true}
 use Rattle.points.specs.Sets.{countOf}
-use Rattle.points.specs.Laws.{member-empty}
+use Rattle.points.proofs.Laws.{member-empty}
 use Rattle.plan.specs.Choice.{if_then_else_}
 use Rattle.plan.specs.APlan.{recordsOf}
 use Rattle.plan.specs.Held.{All, IsByte}

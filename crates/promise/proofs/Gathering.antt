@@ -10,7 +10,7 @@ use native.Mathlib.Decide.{decLt}
 use lib.Dec.{eqb}
 use borrow.Author.Tests.{eqb-true, eq-eqb}
 use Rattle.points.specs.Sets.{member, withOf, from}
-use Rattle.points.specs.Laws.{member-empty, member-with, with-fits}
+use Rattle.points.proofs.Laws.{member-empty, member-with, with-fits}
 use Rattle.plan.specs.Choice.{if_then_else_}
 use Rattle.plan.specs.Limits.{mostPoints}
 use Rattle.board.specs.Windows.{never}

@@ -10,7 +10,7 @@ use lib.Dec.{eqb, ltb, leb}
 use lib.ListN.{length, getD}
 use borrow.Author.Tests.{lt-ltb, le-ltb, le-leb, eqb-true, eq-eqb}
 use Rattle.points.specs.Sets.{member, membersOf, belowOf, subsetOf, every, firstOf}
-use Rattle.points.specs.Laws.{First, first-member, count-le}
+use Rattle.points.proofs.Laws.{First, first-member, count-le}
 use Rattle.plan.specs.Limits.{farthest, recordBytes}
 use Rattle.plan.specs.APlan.{link, is, points, watched, linkTo, blank, recordsOf}
 use Rattle.plan.specs.Held.{All, IsByte}

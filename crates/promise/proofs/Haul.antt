@@ -9,6 +9,7 @@ use native.Mathlib.Omega.{arith}
 use lib.IntN.{pos, negsuc}
 use lib.ListN.{length, getD}
 use Rattle.plan.specs.APlan.{link, ordinary, wait, is, blank, gapOf, planOf, howMany, some, firstThat}
+use Rattle.plan.specs.Haul.{haulRecords, haul}
 use Rattle.plan.specs.Held.{All}
 use Rattle.plan.specs.ReplyNumbers.{checkOf, firstBad, numberFor, lastKind}
 use Rattle.plan.specs.declared.Record.{Record}
@@ -22,22 +23,6 @@ use Rattle.vee.specs.PlanTest.{LinkIn, WaitIn, netOf}
 use Rattle.promise.specs.Nets.{PassesPlan}
 use Rattle.promise.specs.Plays.{Players, Finishes}
 use Rattle.promise.proofs.Play.{finishes}
-
-abbrev rs : List Record
-rs = record { kind = 1; a = 0; b = 0; first = pos 0; second = pos 0; code = 0 }
-    ∷ record { kind = 1; a = 1; b = 0; first = pos 0; second = pos 0; code = 0 }
-    ∷ record { kind = 1; a = 2; b = 0; first = pos 0; second = pos 0; code = 0 }
-    ∷ record { kind = 1; a = 3; b = 0; first = pos 0; second = pos 0; code = 0 }
-    ∷ record { kind = 2; a = 1; b = 2; first = pos 20; second = pos 50; code = 0 }
-    ∷ record { kind = 3; a = 1; b = 0; first = negsuc 9; second = pos 0; code = 0 }
-    ∷ record { kind = 3; a = 2; b = 3; first = pos 5; second = pos 0; code = 0 }
-    ∷ record { kind = 3; a = 3; b = 2; first = pos 15; second = pos 0; code = 0 }
-    ∷ record { kind = 4; a = 3; b = 2; first = pos 35; second = pos 0; code = 0 }
-    ∷ []
-
--- points 0 to 3, link (1, 20, 50, 2), records (1, −10, 0), (2, 5, 3), (3, 15, 2), wait (3, 2, 35)
-abbrev pub haul : Plan
-haul = planOf rs
 
 -- The haul is accepted.
 pub haul-accepted : checkOf haul .number ≡ 0
@@ -67,23 +52,23 @@ no e = clash (sym e)
 
 -- what each record of a kind is
 module _ (p : ℕ) where
-  ordinary-hop : (i : ℕ) → i < length rs → is ordinary (getD rs i blank) ≡ true
-      → Hop p (getD rs i blank .a) (getD rs i blank .b) (gapOf (getD rs i blank .first) .up) (gapOf (getD rs i blank .first) .down)
-  ordinary-hop = all-at (λ r. is ordinary r ≡ true → Hop p (r .a) (r .b) (gapOf (r .first) .up) (gapOf (r .first) .down)) rs (no, (no, (no, (no, (no, (λ e. h10, (λ e. h23, (λ e. h32, (no, tt)))))))))
+  ordinary-hop : (i : ℕ) → i < length haulRecords → is ordinary (getD haulRecords i blank) ≡ true
+      → Hop p (getD haulRecords i blank .a) (getD haulRecords i blank .b) (gapOf (getD haulRecords i blank .first) .up) (gapOf (getD haulRecords i blank .first) .down)
+  ordinary-hop = all-at (λ r. is ordinary r ≡ true → Hop p (r .a) (r .b) (gapOf (r .first) .up) (gapOf (r .first) .down)) haulRecords (no, (no, (no, (no, (no, (λ e. h10, (λ e. h23, (λ e. h32, (no, tt)))))))))
 
-link-is : (i : ℕ) → i < length rs → is link (getD rs i blank) ≡ true → (getD rs i blank .a ≡ 1) × (getD rs i blank .b ≡ 2) × (gapOf (getD rs i blank .first) .up ≡ 20) × (gapOf (getD rs i blank .second) .up ≡ 50)
-link-is = all-at (λ r. is link r ≡ true → (r .a ≡ 1) × (r .b ≡ 2) × (gapOf (r .first) .up ≡ 20) × (gapOf (r .second) .up ≡ 50)) rs (no, (no, (no, (no, (λ e. (refl, refl, refl, refl), (no, (no, (no, (no, tt)))))))))
+link-is : (i : ℕ) → i < length haulRecords → is link (getD haulRecords i blank) ≡ true → (getD haulRecords i blank .a ≡ 1) × (getD haulRecords i blank .b ≡ 2) × (gapOf (getD haulRecords i blank .first) .up ≡ 20) × (gapOf (getD haulRecords i blank .second) .up ≡ 50)
+link-is = all-at (λ r. is link r ≡ true → (r .a ≡ 1) × (r .b ≡ 2) × (gapOf (r .first) .up ≡ 20) × (gapOf (r .second) .up ≡ 50)) haulRecords (no, (no, (no, (no, (λ e. (refl, refl, refl, refl), (no, (no, (no, (no, tt)))))))))
 
-wait-is : (i : ℕ) → i < length rs → is wait (getD rs i blank) ≡ true → (getD rs i blank .a ≡ 3) × (getD rs i blank .b ≡ 2) × (gapOf (getD rs i blank .first) .up ≡ 35)
-wait-is = all-at (λ r. is wait r ≡ true → (r .a ≡ 3) × (r .b ≡ 2) × (gapOf (r .first) .up ≡ 35)) rs (no, (no, (no, (no, (no, (no, (no, (no, (λ e. (refl, refl, refl), tt)))))))))
+wait-is : (i : ℕ) → i < length haulRecords → is wait (getD haulRecords i blank) ≡ true → (getD haulRecords i blank .a ≡ 3) × (getD haulRecords i blank .b ≡ 2) × (gapOf (getD haulRecords i blank .first) .up ≡ 35)
+wait-is = all-at (λ r. is wait r ≡ true → (r .a ≡ 3) × (r .b ≡ 2) × (gapOf (r .first) .up ≡ 35)) haulRecords (no, (no, (no, (no, (no, (no, (no, (no, (λ e. (refl, refl, refl), tt)))))))))
 
-the-link : {A x y C : ℕ} → LinkIn rs A x y C → (A ≡ 1) × (C ≡ 2)
+the-link : {A x y C : ℕ} → LinkIn haulRecords A x y C → (A ≡ 1) × (C ≡ 2)
 the-link l =
     let h = l .has in
     let w = rw (h .here) at (link-is (h .place) (h .listed) (rw (h .here) (h .kind))) in
     (sym (l .from) ∙ w .0, sym (l .to) ∙ w .1)
 
-the-wait : {B C w : ℕ} → WaitIn rs B C w → (B ≡ 3) × (w ≡ 35)
+the-wait : {B C w : ℕ} → WaitIn haulRecords B C w → (B ≡ 3) × (w ≡ 35)
 the-wait v =
     let h = v .has in
     let w = rw (h .here) at (wait-is (h .place) (h .listed) (rw (h .here) (h .kind))) in
@@ -91,7 +76,7 @@ the-wait v =
 
 module _ (ω : ℕ → ℕ) where
   -- the edges of a projection are those six
-  to-hop : {X Y u d : ℕ} → Edge (netOf rs) ω X Y u d → Hop (ω 2) X Y u d
+  to-hop : {X Y u d : ℕ} → Edge (netOf haulRecords) ω X Y u d → Hop (ω 2) X Y u d
   to-hop (projection.ordinary r) =
       let h = r .has in
       rw (r .from, r .to, r .up, r .down) at (rw (h .here) at (ordinary-hop (ω 2) (h .place) (h .listed) (rw (h .here) (h .kind))))
@@ -102,20 +87,20 @@ module _ (ω : ℕ → ℕ) where
       let z = the-wait v in
       rw (w .0, w .1, z .0, z .1) h31
 
-  drive : LinkIn rs 1 20 50 2
-  drive = record { what = getD rs 4 blank; has = record { place = 4; listed = omega arith; here = refl; kind = refl }; from = refl; to = refl; least = refl; most = refl }
+  drive : LinkIn haulRecords 1 20 50 2
+  drive = record { what = getD haulRecords 4 blank; has = record { place = 4; listed = omega arith; here = refl; kind = refl }; from = refl; to = refl; least = refl; most = refl }
 
-  hop-edge : {X Y u d : ℕ} → Hop (ω 2) X Y u d → Edge (netOf rs) ω X Y u d
+  hop-edge : {X Y u d : ℕ} → Hop (ω 2) X Y u d → Edge (netOf haulRecords) ω X Y u d
   hop-edge h10 =
-      projection.ordinary (record { what = getD rs 5 blank; has = record { place = 5; listed = omega arith; here = refl; kind = refl }; from = refl; to = refl; up = refl; down = refl })
+      projection.ordinary (record { what = getD haulRecords 5 blank; has = record { place = 5; listed = omega arith; here = refl; kind = refl }; from = refl; to = refl; up = refl; down = refl })
   hop-edge h23 =
-      projection.ordinary (record { what = getD rs 6 blank; has = record { place = 6; listed = omega arith; here = refl; kind = refl }; from = refl; to = refl; up = refl; down = refl })
+      projection.ordinary (record { what = getD haulRecords 6 blank; has = record { place = 6; listed = omega arith; here = refl; kind = refl }; from = refl; to = refl; up = refl; down = refl })
   hop-edge h32 =
-      projection.ordinary (record { what = getD rs 7 blank; has = record { place = 7; listed = omega arith; here = refl; kind = refl }; from = refl; to = refl; up = refl; down = refl })
+      projection.ordinary (record { what = getD haulRecords 7 blank; has = record { place = 7; listed = omega arith; here = refl; kind = refl }; from = refl; to = refl; up = refl; down = refl })
   hop-edge h12 = projection.there drive
   hop-edge h21 = projection.back drive
   hop-edge h31 =
-      projection.wait drive (record { what = getD rs 8 blank; has = record { place = 8; listed = omega arith; here = refl; kind = refl }; holds = refl; until = refl; long = refl })
+      projection.wait drive (record { what = getD haulRecords 8 blank; has = record { place = 8; listed = omega arith; here = refl; kind = refl }; holds = refl; until = refl; long = refl })
 
 -- ---- a table that bounds every walk, 1,000 up
 
@@ -200,7 +185,7 @@ hop-end h31 = e1
 
 module _ (ω : ℕ → ℕ) (least : 20 ≤ ω 2) (most : ω 2 ≤ 50) where
   abbrev E : ℕ → ℕ → ℕ → ℕ → Type 0
-  E = Edge (netOf rs) ω
+  E = Edge (netOf haulRecords) ω
 
   -- the table bounds every walk, so no closed walk comes to less than zero
   bound : {X Y u d : ℕ} → Walk E X Y u d → pick X (far (ω 2) Y) + d ≤ u + 1000

@@ -8,7 +8,7 @@ use Prim.Native.Nat.{ℕ, _+_, _^_, _≤_, _<_}
 use native.Mathlib.Omega.{arith}
 use borrow.Author.Tests.{eqb-true}
 use Rattle.points.specs.Sets.{member}
-use Rattle.points.specs.Laws.{member-empty, member-small}
+use Rattle.points.proofs.Laws.{member-empty, member-small}
 use Rattle.plan.specs.Limits.{mostPoints}
 use Rattle.plan.specs.APlan.{watched, recordsOf}
 use Rattle.plan.specs.ReplyNumbers.{checkOf}

@@ -11,7 +11,7 @@ use lib.ListN.{getD}
 use lib.Pow.{pow-pos}
 use borrow.Author.Tests.{leb-true, leb-false, eqb-true, eq-eqb, not-false}
 use Rattle.points.specs.Sets.{member, from}
-use Rattle.points.specs.Laws.{member-le, count-le}
+use Rattle.points.proofs.Laws.{member-le, count-le}
 use Rattle.plan.specs.Choice.{if_then_else_}
 use Rattle.plan.specs.Limits.{mostPoints, farthest}
 use Rattle.plan.specs.APlan.{link, is, some, watched, blank, recordsOf}

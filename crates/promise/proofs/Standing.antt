@@ -10,7 +10,7 @@ use lib.Dec.{eqb, ltb}
 use lib.ListN.{length, getD}
 use borrow.Author.Tests.{ltb-true, lt-ltb, le-leb, eqb-true, eq-eqb, not-true}
 use Rattle.points.specs.Sets.{member, membersOf, countOf, belowOf, passing, from}
-use Rattle.points.specs.Laws.{member-small, member-below, same-members, below-fits, count-le, count-members}
+use Rattle.points.proofs.Laws.{member-small, member-below, same-members, below-fits, count-le, count-members}
 use Rattle.plan.specs.Choice.{if_then_else_}
 use Rattle.plan.specs.Limits.{mostPoints, farthest}
 use Rattle.plan.specs.APlan.{ordinary, wait, is, some, points, linkTo, blank, gapOf}

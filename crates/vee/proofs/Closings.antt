@@ -10,7 +10,7 @@ use Rattle.vee.specs.Tables.Closing.{first, next}
 use Rattle.vee.specs.Tables.Closed.{calm, below}
 use Rattle.plan.specs.Limits.{farthest}
 use Rattle.vee.specs.Steps.{PassReady, PassDone, CloseReady, CloseDone}
-use Rattle.vee.specs.Closing.{within, near}
+use Rattle.vee.proofs.Closing.{within, near}
 
 -- t is t₀ after the passes below k
 pub record Shutting (n : ℕ) (t₀ : List ℕ) (k : ℕ) (t : List ℕ) : Type 0 where

@@ -10,7 +10,7 @@ use borrow.Author.Tests.{ltb-true, leb-true, lt-ltb, le-leb}
 use lib.Dec.{ltb, leb}
 use Rattle.network.specs.Walks.{Walk, Negative, NonNegative}
 use Rattle.network.specs.Passing.{Cycle, Consistent, Fine, Bad, Dispatchable, Good}
-use Rattle.network.specs.Laws.{over}
+use Rattle.network.proofs.Laws.{over}
 use Rattle.vee.specs.declared.table.Part.{Part}
 use Rattle.vee.specs.declared.table.Part.the-variants.{All, Falling, Rising}
 use Rattle.vee.specs.declared.pairs.Pair.{Pair}
@@ -21,7 +21,7 @@ use Rattle.vee.specs.Sheet.{SheetEdge, PartOf, SheetReady}
 use Rattle.vee.specs.Filled.{Verdict, Filled}
 use Rattle.vee.specs.Judging.{Before, FirstBad}
 use Rattle.vee.specs.Pairs.{FirstPair, no-pair, pair, Met}
-use Rattle.vee.specs.Laws.{same-distances, fine-outside, ends, fine, bad}
+use Rattle.vee.proofs.Laws.{same-distances, fine-outside, ends, fine, bad}
 use Rattle.vee.proofs.Lays.{inside}
 
 -- a cycle of a part is one of all

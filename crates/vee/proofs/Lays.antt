@@ -17,7 +17,7 @@ use Rattle.vee.specs.Filled.{PutReady, Put, ordinary-put, wait-put, link
 use Rattle.vee.specs.Tables.{Closed}
 use Rattle.vee.specs.Steps.{CloseDone}
 use Rattle.vee.specs.Filled.{Verdict, Filled}
-use Rattle.vee.specs.Closing.{distances, cycle}
+use Rattle.vee.proofs.Closing.{distances, cycle}
 use Rattle.vee.proofs.Offers.{Plus, old, new, same, plus-part, begun}
 
 -- the edges of a sheet are between its points

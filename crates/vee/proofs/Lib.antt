@@ -1,3 +1,7 @@
+-- The proofs of the plan test that belong to no one function: tables and their closing first, then the walk over the
+-- projections, then what a yes means. Later crates cite `Yes`, `Single` and `Plans`.
+pub mod Closing
+pub mod Laws
 pub mod Rows
 pub mod Closings
 pub mod Begins
@@ -14,3 +18,4 @@ pub mod Sheets
 pub mod Orders
 pub mod Testing
 pub mod Yes
+pub mod Single

@@ -9,7 +9,7 @@ use native.Mathlib.Nat.{add-zero}
 use native.Mathlib.Decide.{ℕ-discrete}
 use lib.ListN.{length, getD}
 use Rattle.network.specs.Walks.{Walk, nil, step}
-use Rattle.network.specs.Laws.{over}
+use Rattle.network.proofs.Laws.{over}
 use Rattle.plan.specs.Limits.{farthest}
 use Rattle.vee.specs.declared.table.Part.{Part}
 use Rattle.vee.specs.Tables.{Table, bias, none, side, room, at, Within}

@@ -22,7 +22,7 @@ use Rattle.vee.specs.declared.Answer.the-variants as answer
 use Rattle.vee.specs.Tables.{side}
 use Rattle.vee.specs.Sheet.{SheetEdge, SheetReady, firstAt, secondAt, by}
 use Rattle.vee.specs.Layout.{LaidOut}
-use Rattle.vee.specs.Laws.{same-cycle, same-good, same-bad}
+use Rattle.vee.proofs.Laws.{same-cycle, same-good, same-bad}
 use Rattle.vee.specs.PlanTest.{Span, spanOf, spans, projections, many, mostProjections, unset, Found, all-good, good, cycle, pair, edgesOf, Tested, refused, too-many, tested}
 use Rattle.vee.specs.Walked.{spanAt, spansIn, RowsReady, CountedAs, WalkReady, Walked}
 use Rattle.vee.proofs.Rules.{Valid, valid}

@@ -20,9 +20,9 @@ use Rattle.network.specs.Passing.{Good, Passes}
 use Rattle.vee.specs.declared.Answer.{Answer}
 use Rattle.vee.specs.declared.Answer.the-variants as answer
 use Rattle.vee.specs.Sheet.{by}
-use Rattle.vee.specs.Laws.{same-good}
+use Rattle.vee.proofs.Laws.{same-good}
 use Rattle.vee.specs.PlanTest.{LinkIn, netOf, Span, spanOf, spans, spread, projections, unset, many, mostProjections, Found, all-good, good, edgesOf, Tested, tested}
-use Rattle.vee.specs.Single.{one-answer}
+use Rattle.vee.proofs.Single.{one-answer}
 use Rattle.vee.proofs.Rules.{Valid}
 use Rattle.vee.proofs.Plans.{Whole, w-point, w-link, w-ordinary, w-wait, whole, few-points}
 use Rattle.vee.proofs.Orders.{span-here, span-not}

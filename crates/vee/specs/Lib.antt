@@ -1,13 +1,12 @@
+-- What a reader has to believe of the plan test: `PlanTest`, over `Tables`, `Distances`, `Judging` and `Pairs`. The other
+-- pages are what private functions' contracts cite. No proofs are here.
 pub mod Tables
 pub mod Distances
-pub mod Closing
 pub mod Steps
 pub mod Sheet
 pub mod Filled
 pub mod Judging
 pub mod Pairs
-pub mod Laws
 pub mod PlanTest
-pub mod Single
 pub mod Walked
 pub mod Layout

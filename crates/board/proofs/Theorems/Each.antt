@@ -10,7 +10,7 @@ use native.Mathlib.Decide.{decLt}
 use lib.Dec.{eqb}
 use lib.ListN.{length, getD}
 use borrow.Author.Tests.{ltb-true, lt-ltb, eqb-true, eq-eqb}
-use Rattle.points.specs.Laws.{member-below, subset-member, member-subset}
+use Rattle.points.proofs.Laws.{member-below, subset-member, member-subset}
 use Rattle.points.specs.Sets.{belowOf, subsetOf, member, membersOf, from, every, passing}
 use Rattle.plan.specs.Limits.{mostPoints}
 use Rattle.plan.specs.APlan.{blank}

@@ -11,7 +11,7 @@ use lib.ListN.{length, getD, set, length-set}
 use lib.Seq.{getD-set-same, getD-set-other}
 use borrow.Author.Tests.{eqb-true, eqb-false, eq-eqb, not-true}
 use Rattle.points.specs.Sets.{member, membersOf, withOf, countOf}
-use Rattle.points.specs.Laws.{member-with, with-fits, with-old, with-count}
+use Rattle.points.proofs.Laws.{member-with, with-fits, with-old, with-count}
 use Rattle.plan.specs.Choice.{if_then_else_}
 use Rattle.plan.specs.Limits.{mostPoints}
 use Rattle.board.specs.Boards.{isDone, minute}

@@ -10,7 +10,7 @@ use native.Mathlib.Omega.{arith}
 use lib.Dec.{eqb, ltb}
 use borrow.Author.Tests.{ltb-false, lt-ltb, le-ltb, le-leb, ne-eqb}
 use Rattle.points.specs.Sets.{membersOf, belowOf, every}
-use Rattle.points.specs.Laws.{count-le, members-empty, subset-empty}
+use Rattle.points.proofs.Laws.{count-le, members-empty, subset-empty}
 use Rattle.plan.specs.Choice.{if_then_else_}
 use Rattle.plan.specs.APlan.{points, watched, recordsOf}
 use Rattle.plan.specs.PlanFile.{wordBytes}

@@ -9,7 +9,7 @@ use lib.Dec.{eqb, leb}
 use lib.ListN.{length, getD, getD-replicate}
 use borrow.Author.Tests.{leb-true, le-leb, eqb-true, eq-eqb, not-true}
 use Rattle.points.specs.Sets.{membersOf, belowOf, subsetOf, countOf, from, every}
-use Rattle.points.specs.Laws.{member-empty}
+use Rattle.points.proofs.Laws.{member-empty}
 use Rattle.plan.specs.Limits.{mostPoints, farthest}
 use Rattle.plan.specs.APlan.{link, is, points, blank}
 use Rattle.plan.specs.declared.Record.{Record}

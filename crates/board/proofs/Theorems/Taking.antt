@@ -11,7 +11,7 @@ use lib.Dec.{eqb, ltb, leb}
 use lib.ListN.{length, getD}
 use borrow.Author.Tests.{ltb-true, ltb-false, leb-true, eqb-false, not-true, not-false}
 use Rattle.points.specs.Sets.{member, membersOf, belowOf, subsetOf, countOf, from, every, firstOf}
-use Rattle.points.specs.Laws.{first-member}
+use Rattle.points.proofs.Laws.{first-member}
 use Rattle.plan.specs.Choice.{if_then_else_}
 use Rattle.plan.specs.Limits.{mostPoints, farthest, recordBytes}
 use Rattle.plan.specs.APlan.{link, is, points, watched, linkTo, blank, recordsOf}

@@ -6,7 +6,8 @@ use Prim.Native.Nat.{_≤_, _<_, _-_, min}
 use lib.ListN.{length, drop, length-map}
 use Rattle.plan.specs.Limits.{mostRecords}
 use Rattle.plan.specs.APlan.{endsAt, placeFrom, placeOf, recordsOf}
-use Rattle.plan.proofs.Lookup.{used-records, record-at, found-here, found-later, found-nowhere}
+use Rattle.plan.proofs.Records.{used-records, record-at}
+use Rattle.plan.proofs.Lookup.{found-here, found-later, found-nowhere}
 use Rattle.plan.proofs.link_to.Statement.{statement}
 use Rattle.plan.proofs.link_to.Tie as tie
 

@@ -6,7 +6,8 @@ use Prim.Native.Nat.{_≤_, _<_, _-_, min}
 use lib.ListN.{length, take, length-map}
 use Rattle.plan.specs.Limits.{mostRecords}
 use Rattle.plan.specs.APlan.{point, is, howMany, recordsOf}
-use Rattle.plan.proofs.Lookup.{used-records, record-at, counted-more, counted-few, counted-end}
+use Rattle.plan.proofs.Records.{used-records, record-at}
+use Rattle.plan.proofs.Lookup.{counted-more, counted-few, counted-end}
 use Rattle.plan.proofs.points_of.Statement.{statement}
 use Rattle.plan.proofs.points_of.Tie as tie
 

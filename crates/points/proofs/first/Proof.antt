@@ -2,7 +2,7 @@
 use native.Mathlib.Nat.{lt-of-le-of-lt}
 use lib.Count.{trailing-le}
 use lib.Dec.{lit<}
-use Rattle.points.specs.Laws.{trailing-first}
+use Rattle.points.proofs.Laws.{trailing-first}
 use Rattle.points.proofs.first.Statement.{statement}
 use Rattle.points.proofs.first.Tie as tie
 

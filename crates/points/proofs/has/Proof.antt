@@ -2,7 +2,7 @@
 use borrow.Author.Needs.{needs}
 use mathlib.Core.Path.{refl, sym}
 use Rattle.points.specs.Sets.{member}
-use Rattle.points.specs.Laws.{member-past}
+use Rattle.points.proofs.Laws.{member-past}
 use Rattle.points.proofs.has.Statement.{statement}
 use Rattle.points.proofs.has.Tie as tie
 

@@ -5,7 +5,7 @@ use mathlib.Core.Path.{_≡_, refl, sym, _∙_}
 use native.Mathlib.Omega.{arith}
 use Prim.Native.Nat.{_<_, _^_}
 use Rattle.points.specs.Sets.{countOf, subsetOf}
-use Rattle.points.specs.Laws.{turn, subset-empty, subset-found, subset-missing}
+use Rattle.points.proofs.Laws.{turn, subset-empty, subset-found, subset-missing}
 use Rattle.points.proofs.subset.Statement.{statement}
 use Rattle.points.proofs.subset.Tie as tie
 

@@ -2,7 +2,7 @@
 use borrow.Author.Needs.{needs}
 use mathlib.Core.Path.{sym, _∙_}
 use native.Mathlib.Omega.{arith}
-use Rattle.points.specs.Laws.{with-new, with-old, with-past, with-fits}
+use Rattle.points.proofs.Laws.{with-new, with-old, with-past, with-fits}
 use Rattle.points.proofs.Shift.{one-shl}
 use Rattle.points.proofs.with.Statement.{statement}
 use Rattle.points.proofs.with.Tie as tie

@@ -2,7 +2,7 @@
 use borrow.Author.Needs.{needs}
 use mathlib.Core.Path.{sym, _∙_}
 use native.Mathlib.Omega.{arith}
-use Rattle.points.specs.Laws.{member-small, member-le, without-old, without-new}
+use Rattle.points.proofs.Laws.{member-small, member-le, without-old, without-new}
 use Rattle.points.proofs.Shift.{one-shl}
 use Rattle.points.proofs.without.Statement.{statement}
 use Rattle.points.proofs.without.Tie as tie

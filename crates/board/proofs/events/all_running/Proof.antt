@@ -5,7 +5,7 @@ use mathlib.Core.Path.{_≡_, refl, sym, _∙_}
 use borrow.Author.Tests.{not-true, not-false}
 use Prim.Native.Nat.{_<_, _^_}
 use Rattle.points.specs.Sets.{membersOf, every, countOf}
-use Rattle.points.specs.Laws.{turn}
+use Rattle.points.proofs.Laws.{turn}
 use Rattle.board.specs.Inside.{runsAt}
 use Rattle.board.proofs.Walks.{members-fails, members-turn, members-end}
 use Rattle.board.proofs.events.all_running.Statement.{statement}

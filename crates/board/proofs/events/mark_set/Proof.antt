@@ -5,7 +5,7 @@ use mathlib.Core.Path.{_≡_, refl, _∙_}
 use Prim.Native.Nat.{_<_, _^_}
 use lib.ListN.{length, length-map, length-set}
 use Rattle.points.specs.Sets.{membersOf, countOf}
-use Rattle.points.specs.Laws.{turn}
+use Rattle.points.proofs.Laws.{turn}
 use Rattle.board.specs.Events.{markAll}
 use Rattle.plan.specs.Limits.{mostPoints}
 use Rattle.board.proofs.Walks.{marks-turn, marks-end}

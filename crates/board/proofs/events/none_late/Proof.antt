@@ -9,7 +9,7 @@ use Rattle.plan.specs.Limits.{mostRecords}
 use Rattle.plan.specs.APlan.{recordsOf}
 use Rattle.board.specs.Boards.{each}
 use Rattle.board.specs.Events.{notLate}
-use Rattle.board.proofs.Records.{next-record, last-record}
+use Rattle.plan.proofs.Records.{next-record, last-record}
 use Rattle.board.proofs.Walks.{records-fails, records-turn, records-end}
 use Rattle.board.proofs.events.none_late.Statement.{statement}
 use Rattle.board.proofs.events.none_late.Tie as tie

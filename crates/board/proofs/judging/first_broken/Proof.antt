@@ -11,7 +11,7 @@ use Rattle.plan.specs.ReplyNumbers.{checkOf}
 use Rattle.plan.proofs.Accepted.{accepted-plan}
 use Rattle.board.specs.Verdicts.{firstBroken}
 use Rattle.board.specs.Inside.{LinksOf}
-use Rattle.board.proofs.Records.{next-record, last-record}
+use Rattle.plan.proofs.Records.{next-record, last-record}
 use Rattle.board.proofs.Broken.{kept-from, broken-here, broken-turn, broken-end}
 use Rattle.board.proofs.judging.first_broken.Statement.{statement}
 use Rattle.board.proofs.judging.first_broken.Tie as tie

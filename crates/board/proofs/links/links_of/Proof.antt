@@ -7,7 +7,7 @@ use lib.ListN.{length, take, length-map}
 use Rattle.plan.specs.Limits.{mostRecords}
 use Rattle.plan.specs.APlan.{recordsOf}
 use Rattle.board.specs.Inside.{LinksOf}
-use Rattle.board.proofs.Records.{next-record, last-record, all-of}
+use Rattle.plan.proofs.Records.{next-record, last-record, all-of}
 use Rattle.board.proofs.Linking.{linksAs, links-none, links-turn}
 use Rattle.board.proofs.links.links_of.Statement.{statement}
 use Rattle.board.proofs.links.links_of.Tie as tie

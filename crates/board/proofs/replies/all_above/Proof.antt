@@ -7,7 +7,7 @@ use Prim.Native.Nat.{ℕ, _+_, _<_, _^_}
 use lib.Dec.{ltb}
 use lib.ListN.{getD}
 use Rattle.points.specs.Sets.{countOf, membersOf, every}
-use Rattle.points.specs.Laws.{turn, first-member}
+use Rattle.points.proofs.Laws.{turn, first-member}
 use Rattle.plan.specs.Limits.{farthest}
 use Rattle.board.proofs.Walks.{members-fails, members-turn, members-end}
 use Rattle.board.proofs.replies.all_above.Statement.{statement}

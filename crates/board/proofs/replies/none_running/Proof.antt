@@ -9,7 +9,7 @@ use Rattle.plan.specs.Limits.{mostRecords}
 use Rattle.plan.specs.APlan.{recordsOf}
 use Rattle.plan.specs.declared.Record.{Record}
 use Rattle.board.specs.Boards.{running, each}
-use Rattle.board.proofs.Records.{used-records, record-at}
+use Rattle.plan.proofs.Records.{used-records, record-at}
 use Rattle.board.proofs.Walks.{records-fails, records-turn, records-end}
 use Rattle.board.proofs.Replying.{none-so}
 use Rattle.board.proofs.replies.none_running.Statement.{statement}

@@ -7,7 +7,7 @@ use Prim.Native.Nat.{_≤_, _-_}
 use Rattle.board.specs.declared.Place.{Place}
 use Rattle.board.specs.declared.Outcome.the-variants.{Offers}
 use Rattle.plan.specs.Limits.{mostPoints}
-use Rattle.board.specs.Inside2.{placeFrom}
+use Rattle.board.specs.InsideReplies.{placeFrom}
 use Rattle.board.proofs.Replying.{Listed, listed-start, listed-turn, listed-end}
 use Rattle.board.proofs.replies.offer.Statement.{statement}
 use Rattle.board.proofs.replies.offer.Tie as tie

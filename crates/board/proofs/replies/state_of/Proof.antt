@@ -1,6 +1,6 @@
 -- `board::replies::state_of` meets its contract. Assumes nothing.
 use borrow.Author.Tests.{lt-ltb, le-ltb, not-true, not-false}
-use Rattle.board.specs.Inside2.{stateFrom}
+use Rattle.board.specs.InsideReplies.{stateFrom}
 use Rattle.board.proofs.replies.state_of.Statement.{statement}
 use Rattle.board.proofs.replies.state_of.Tie as tie
 

@@ -8,7 +8,7 @@ use lib.ListN.{length, drop, length-map}
 use Rattle.plan.specs.Limits.{mostRecords}
 use Rattle.plan.specs.APlan.{recordsOf}
 use Rattle.board.specs.Boards.{inBounds, each}
-use Rattle.board.proofs.Records.{next-record, last-record}
+use Rattle.plan.proofs.Records.{next-record, last-record}
 use Rattle.board.proofs.Walks.{records-fails, records-turn, records-end}
 use Rattle.board.proofs.sound.all_in_bounds.Statement.{statement}
 use Rattle.board.proofs.sound.all_in_bounds.Tie as tie

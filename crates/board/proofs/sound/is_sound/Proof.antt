@@ -1,7 +1,7 @@
 -- `board::sound::is_sound` meets its contract. Assumes nothing.
 use native.Mathlib.Omega.{arith}
 use borrow.Author.Needs.{needs}
-use Rattle.points.specs.Laws.{count-le}
+use Rattle.points.proofs.Laws.{count-le}
 use Rattle.board.specs.Boards.{sound}
 use Rattle.board.proofs.sound.is_sound.Statement.{statement}
 use Rattle.board.proofs.sound.is_sound.Tie as tie

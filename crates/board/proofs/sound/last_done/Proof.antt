@@ -5,7 +5,7 @@ use mathlib.Core.Path.{_≡_, sym, _∙_}
 use mathlib.Core.Logic.{⊎-elim}
 use Prim.Native.Nat.{_<_, _^_, max}
 use Rattle.points.specs.Sets.{countOf, membersOf}
-use Rattle.points.specs.Laws.{turn}
+use Rattle.points.proofs.Laws.{turn}
 use Rattle.board.specs.Boards.{largest}
 use Rattle.board.proofs.Walks.{largest-turn, largest-end}
 use Rattle.board.proofs.sound.last_done.Statement.{statement}

@@ -4,9 +4,9 @@ use native.Mathlib.Omega.{arith}
 use mathlib.Core.Path.{_≡_, sym, _∙_}
 use Prim.Native.Nat.{_<_, _≤_, _^_, min}
 use Rattle.points.specs.Sets.{countOf, membersOf}
-use Rattle.points.specs.Laws.{turn, first-member}
+use Rattle.points.proofs.Laws.{turn, first-member}
 use Rattle.board.specs.Windows.{never}
-use Rattle.board.specs.Inside2.{leastAt}
+use Rattle.board.specs.InsideReplies.{leastAt}
 use Rattle.board.proofs.Opening.{least-at-le, least-turn, least-end}
 use Rattle.board.proofs.windows.least_high.Statement.{statement}
 use Rattle.board.proofs.windows.least_high.Tie as tie

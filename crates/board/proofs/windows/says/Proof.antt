@@ -5,7 +5,7 @@ use mathlib.Core.Path.{_≡_}
 use mir.Syntax.{w32}
 use mir.ValLaws.{toZ-ofZ}
 use Rattle.plan.specs.APlan.{gapOf}
-use Rattle.board.specs.Inside2.{saysOf}
+use Rattle.board.specs.InsideReplies.{saysOf}
 use Rattle.board.proofs.windows.says.Statement.{statement}
 use Rattle.board.proofs.windows.says.Tie as tie
 

@@ -7,8 +7,8 @@ use lib.ListN.{length, take, length-map, length-set}
 use Rattle.plan.specs.Limits.{mostPoints, mostRecords}
 use Rattle.plan.specs.APlan.{recordsOf}
 use Rattle.plan.proofs.Accepted.{accepted-plan}
-use Rattle.board.specs.Inside2.{TablesOf}
-use Rattle.board.proofs.Records.{used-records, record-at, all-of}
+use Rattle.board.specs.InsideReplies.{TablesOf}
+use Rattle.plan.proofs.Records.{used-records, record-at, all-of}
 use Rattle.board.proofs.Theorems.Soundness.{sound-means}
 use Rattle.board.proofs.Windowing.{tables-start, tables-turn}
 use Rattle.board.proofs.Opening.{fine, small}

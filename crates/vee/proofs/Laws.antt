@@ -7,7 +7,7 @@ use native.Mathlib.Omega.{arith}
 use native.Mathlib.Decide.{decLt}
 use Rattle.network.specs.Walks.{Walk, nil, step, Negative, NonNegative, Vee, vee}
 use Rattle.network.specs.Passing.{Joined, Cycle, Consistent, Shortest, Fine, Bad, Dispatchable, Good}
-use Rattle.network.specs.Laws.{over}
+use Rattle.network.proofs.Laws.{over}
 use Rattle.vee.specs.Tables.{Table, bias, none}
 use Rattle.vee.specs.Distances.{Inside, Distances}
 use Rattle.vee.specs.Judging.{FirstBad}

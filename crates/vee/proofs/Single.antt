@@ -6,7 +6,7 @@ use Prim.Native.Nat.{ℕ, _+_, _<_, _≤_}
 use native.Mathlib.Omega.{arith}
 use native.Mathlib.Decide.{decLt}
 use Rattle.network.specs.Passing.{Cycle, Consistent, Good}
-use Rattle.network.specs.Laws.{not-both, not-fine}
+use Rattle.network.proofs.Laws.{not-both, not-fine}
 use Rattle.plan.specs.declared.Plan.{Plan}
 use Rattle.vee.specs.declared.Answer.{Answer}
 use Rattle.vee.specs.declared.Answer.the-variants as answer

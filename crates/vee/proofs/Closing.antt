@@ -11,7 +11,7 @@ use lib.Pow.{pow-mono}
 use Rattle.network.specs.Walks.{Walk, nil, step}
 use Rattle.plan.specs.Limits.{farthest}
 use Rattle.network.specs.Passing.{Cycle, Consistent}
-use Rattle.network.specs.Laws.{append}
+use Rattle.network.proofs.Laws.{append}
 use Rattle.vee.specs.Tables.{Table, bias, none, half, side, Best, Passed, Closing, Closed, Within, Near}
 use Rattle.vee.specs.Tables.Closing.{first, next}
 use Rattle.vee.specs.Tables.Closed.{calm, below}

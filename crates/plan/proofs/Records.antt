@@ -8,11 +8,12 @@ use native.Mathlib.Omega.{arith}
 use native.Mathlib.Numerals.{add-one}
 use lib.ListN.{length, take, getD, length-take}
 use lib.Seq.{take-suc, getD-take, take-all}
 use Rattle.plan.specs.Choice.{if_then_else_}
 use Rattle.plan.specs.Limits.{mostRecords}
-use Rattle.plan.specs.APlan.{blank, some, firstThat, recordsOf}
+use Rattle.plan.specs.APlan.{blank, one, howMany, some, firstThat, recordsOf}
+use Rattle.plan.specs.ReplyNumbers.{lastKind}
 use Rattle.plan.specs.declared.Record.{Record}
 use Rattle.plan.specs.declared.Plan.{Plan}
 
 module _ (p : Plan) (room : length (p .records) ≡ mostRecords) where
   -- a plan has as many records as its count says and its room holds
@@ -29,6 +30,17 @@ module _ (p : Plan) (room : length (p .records) ≡ mostRecords) where
 
     pub last-record : n ≤ i → length (recordsOf p) ≤ i
     last-record h = omega (arith, used-records)
+
+-- the last kind, and how many are so, with a record more
+pub last-snoc : (k : ℕ) (rs : List Record) (r : Record) → lastKind k (rs ++ (r ∷ [])) ≡ r .kind
+unfolding lastKind
+last-snoc k [] r = refl
+last-snoc k (x ∷ rs) r = last-snoc (x .kind) rs r
+
+pub many-snoc : (so : Record → Bool) (rs : List Record) (r : Record) → howMany so (rs ++ (r ∷ [])) ≡ howMany so rs + one (so r)
+unfolding howMany
+many-snoc so [] r = omega arith
+many-snoc so (x ∷ rs) r = omega (arith, many-snoc so rs r)
 
 or-swap : (a b c : Bool) → (a || (b || c)) ≡ (b || (a || c))
 or-swap true true c = refl

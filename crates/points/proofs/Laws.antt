@@ -12,8 +12,8 @@ use lib.Dec.{lit<, eqb, ltb}
 use lib.ListN.{length}
 use lib.Pow.{pow-mono}
 use Rattle.points.specs.Sets.{member, withOf, withoutOf, countOf, belowOf, from, passing, membersOf, firstOr, firstOf, every, subsetOf}
-use Rattle.points.specs.Bits.{bit, twice, member-bit, bit-one, bit-zero, add-member, add-fits, add-ones, take-bit, same-bits, low-bits}
-use Rattle.points.specs.Lists.{NoneIn, Begins, none, lowest, begins, every-within, within-every}
+use Rattle.points.proofs.Bits.{bit, twice, member-bit, bit-one, bit-zero, add-member, add-fits, add-ones, take-bit, same-bits, low-bits}
+use Rattle.points.proofs.Lists.{NoneIn, Begins, none, lowest, begins, every-within, within-every}
 
 -- ---- which members a set has
 

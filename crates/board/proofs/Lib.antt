@@ -9,3 +9,4 @@ mod Windowing
 mod Opening
 mod Replying
 mod Taking
+mod Streaming

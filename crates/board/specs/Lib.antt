@@ -3,6 +3,7 @@ pub mod Boards
 pub mod Windows
 pub mod Replies
 pub mod Events
+pub mod Streams
 pub mod Verdicts
 pub mod Inside
 pub mod InsideReplies

@@ -2,14 +2,15 @@
 // length, and its minute any number of 32 bits, so sums of minutes and bounds are of 64 bits.
 ghost use mathlib.Core.Path.{_≡_};
 ghost use mathlib.Core.List.{[], _∷_};
-ghost use Prim.Native.Nat.{_+_, _≤_};
+ghost use mathlib.Core.Bool.{true};
+ghost use Prim.Native.Nat.{_+_, _^_, _≤_, _<_};
 ghost use lib.ListN.{length, getD};
 ghost use Rattle.points.specs.Sets.{membersOf, every};
 ghost use Rattle.plan.specs.Limits.{recordBytes};
 ghost use Rattle.plan.specs.APlan.{recordsOf};
 ghost use Rattle.plan.specs.PlanFile.{wordAt};
-ghost use Rattle.board.specs.Boards.{each};
-ghost use Rattle.board.specs.Events.{notLate, markAll, eventNumber, taken, takeOf};
+ghost use Rattle.board.specs.Boards.{each, sound};
+ghost use Rattle.board.specs.Events.{eventSet, notLate, markAll, eventNumber, taken, takeOf};
 ghost use Rattle.board.specs.Inside.{LinksOf, eventIn, formedFor, runsAt, timely, timelyAt, setNumber, pointFrom, clockAt, afterEvent, takenNext};
 ghost use Rattle.board.specs.InsideReplies.{Ready};
 use crate::ALL_DONE;
@@ -80,7 +81,7 @@ fn word_at(bytes: &[u8], at: usize) -> u32
 
 fn event_in(bytes: &[u8]) -> Event
     requires { ⌜ recordBytes ≤ length (now bytes) ⌝ }
-    ensures { λ e. ⌜ e ≡ eventIn (now (bytes .entry)) ⌝ }
+    ensures { λ e. ⌜ (e ≡ eventIn (now (bytes .entry))) × (eventSet (now (bytes .entry)) < 2 ^ 32) ⌝ }
 {
     Event {
         minute: word_at(bytes, 0),
@@ -292,7 +293,7 @@ fn event_number(plan: Plan, board: Board, links: Links, event: &[u8]) -> u32
     set_number(plan, board, links, e, next)
 }
 
-fn answer(number: u32, place: u32, board: Board) -> Taken
+pub(crate) fn answer(number: u32, place: u32, board: Board) -> Taken
     ensures { λ t. ⌜ t ≡ taken number place board ⌝ }
 {
     Taken {
@@ -305,7 +306,7 @@ fn answer(number: u32, place: u32, board: Board) -> Taken
 // One event on a sound board of an accepted plan.
 pub(crate) fn take_next(plan: Plan, board: Board, links: Links, event: &[u8]) -> Taken
     requires { ⌜ Ready plan board links ⌝ }
-    ensures { λ t. ⌜ t ≡ takenNext (recordsOf plan) board (now (event .entry)) ⌝ }
+    ensures { λ t. ⌜ (t ≡ takenNext (recordsOf plan) board (now (event .entry))) × (sound (recordsOf plan) (t .board) ≡ true) ⌝ }
 {
     let number = event_number(plan, board, links, event);
     if number != ACCEPTED {

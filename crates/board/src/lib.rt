@@ -10,6 +10,7 @@ mod judging;
 mod links;
 mod replies;
 mod sound;
+mod stream;
 mod windows;
 
 use judging::first_broken;

@@ -42,7 +42,7 @@ returns-3 : tie.Need-returns-3
 unfolding takeOf takenNext
 returns-3 c =
     let e = rw (c .before .before .before .before .before .before .check .ensures) at (eq-eqb _ _ (c .before .before .before .before .if1 .left)) in
-    rw (e, sym (c .before .before .before .is-sound .ensures) ∙ not-false _ (c .before .before .if2 .left)) (c .take-next .ensures)
+    rw (e, sym (c .before .before .before .is-sound .ensures) ∙ not-false _ (c .before .before .if2 .left)) (c .take-next .ensures .0)
 
 pub take-spec : {M : Type 1} → statement M
 take-spec =

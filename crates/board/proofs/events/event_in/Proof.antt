@@ -1,5 +1,6 @@
 -- `board::events::event_in` meets its contract. Assumes nothing.
 use borrow.Author.Needs.{needs}
+use native.Mathlib.Omega.{arith}
 use Rattle.board.proofs.events.event_in.Statement.{statement}
 use Rattle.board.proofs.events.event_in.Tie as tie
 
@@ -13,7 +14,7 @@ word-at-requires-2 : tie.Need-word-at-requires-2
 word-at-requires-2 c κs = search needs
 
 returns : tie.Need-returns
-returns c = rw (c .word-at2 .ensures, c .before .before .word-at .ensures)
+returns c = (rw (c .word-at2 .ensures, c .before .before .word-at .ensures), omega (arith, c .word-at2 .ok, c .word-at2 .ensures))
 
 pub event-in-spec : {M : Type 1} → statement M
 event-in-spec =

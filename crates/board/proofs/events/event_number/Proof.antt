@@ -70,9 +70,9 @@ returns-4 c =
     let x = a .event .now in
     let f = rw (c .before .before .before .before .before .is-formed .ensures, c .before .before .before .before .before .before .points-of .ensures) at (not-false (c .before .before .before .before .before .is-formed .result) (c .before .before .before .before .if3 .left)) in
     let p = formed-point _ x f (accepted-plan (a .plan) (s .pre .accepted) .few) in
-    let n = rw (c .before .before .before .event-in .ensures) at (c .before .point-number .ensures) in
+    let n = rw (c .before .before .before .event-in .ensures .0) at (c .before .point-number .ensures) in
     let q = point-same rs b (c .before .before .before .before .before .before .before .before .before .windows-of .result) (c .before .before .before .before .before .before .before .before .before .windows-of .ensures) (c .before .before .latest-of .result) (eventMinute x) (eventPoint x) (c .before .before .latest-of .ensures) p in
-    rw (c .set-number .ensures, c .before .before .before .event-in .ensures, n, q)
+    rw (c .set-number .ensures, c .before .before .before .event-in .ensures .0, n, q)
     (number-rest rs b x (sym (c .before .before .before .before .before .before .before .before .before .before .before .is-finished .ensures) ∙ c .before .before .before .before .before .before .before .before .before .before .if1 .left) (sym (c .before .before .before .before .before .before .before .before .is-stuck .ensures) ∙ c .before .before .before .before .before .before .before .if2 .left) (sym (formed-same rs b x) ∙ f))
 
 pub event-number-spec : {M : Type 1} → statement M

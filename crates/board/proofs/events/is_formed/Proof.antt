@@ -36,7 +36,7 @@ subset-requires c κs = search needs
 returns-2 : tie.Need-returns-2
 unfolding formedFor
 returns-2 c =
-    rw (eq-eqb _ _ (c .before .before .before .before .before .before .before .before .before .before .if1 .left), c .before .subset .ensures, c .before .before .byte .ensures .0, c .before .before .before .first-points .ensures, c .before .before .before .before .before .event-in .ensures, c .before .before .before .before .before .before .word-at .ensures)
+    rw (eq-eqb _ _ (c .before .before .before .before .before .before .before .before .before .before .if1 .left), c .before .subset .ensures, c .before .before .byte .ensures .0, c .before .before .before .first-points .ensures, c .before .before .before .before .before .event-in .ensures .0, c .before .before .before .before .before .before .word-at .ensures)
 
 pub is-formed-spec : {M : Type 1} → statement M
 is-formed-spec =

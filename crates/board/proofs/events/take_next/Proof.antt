@@ -1,8 +1,12 @@
 -- `board::events::take_next` meets its contract. Assumes nothing.
 use native.Mathlib.Omega.{arith}
 use borrow.Author.Needs.{needs}
+use mathlib.Core.Path.{_∙_}
+use lib.ListN.{length-map}
 use Rattle.plan.specs.APlan.{recordsOf}
 use Rattle.board.proofs.Taking.{taken-formed, formed-length, next-refused, next-taken}
+use Rattle.board.proofs.Theorems.Soundness.{HeldBoard}
+use Rattle.board.proofs.Streaming.{next-sound}
 use Rattle.board.proofs.events.take_next.Statement.{statement}
 use Rattle.board.proofs.events.take_next.Tie as tie
 
@@ -16,7 +20,7 @@ returns : tie.Need-returns
 returns c =
     let a = c .before .before .before .before .args in
     let n = rw (c .before .before .event-number .ensures) at (c .before .if1 .taken) in
-    rw (c .answer .ensures, c .before .before .event-number .ensures) (next-refused (recordsOf (a .plan)) (a .board) (a .event .now) n)
+    (rw (c .answer .ensures, c .before .before .event-number .ensures) (next-refused (recordsOf (a .plan)) (a .board) (a .event .now) n), rw (c .answer .ensures) (c .before .before .before .before .pre .sound))
 
 event-in-requires : tie.Need-event-in-requires
 event-in-requires c κs =
@@ -34,7 +38,11 @@ returns-2 : tie.Need-returns-2
 returns-2 c =
     let a = c .before .before .before .before .before .before .args in
     let n = rw (c .before .before .before .before .event-number .ensures) at (c .before .before .before .if1 .left) in
-    rw (c .answer2 .ensures, c .before .after .ensures, c .before .before .event-in .ensures) (next-taken (recordsOf (a .plan)) (a .board) (a .event .now) n)
+    let t = rw (c .before .after .ensures, c .before .before .event-in .ensures .0) at (c .answer2 .ensures) in
+    let e = t ∙ next-taken (recordsOf (a .plan)) (a .board) (a .event .now) n in
+    let q = c .before .before .before .before .before .before in
+    let held : HeldBoard (a .board) = record { room = rw length-map at (q .good .1 .0 .1 .1 .1 .1 .0 .1 .0 .1); done = omega (arith, q .good .1 .0 .1 .1 .1 .0 .1) } in
+    (e, rw e (next-sound (a .plan) (q .pre .accepted) (a .board) held (q .pre .sound) (a .event .now) (c .before .before .event-in .ensures .1)))
 
 pub take-next-spec : {M : Type 1} → statement M
 take-next-spec =

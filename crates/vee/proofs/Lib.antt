@@ -20,6 +20,7 @@ pub mod Orders
 pub mod Testing
 pub mod Yes
 pub mod Single
+pub mod Numbered
 pub mod Arcs
 pub mod Executable
 pub mod Cases

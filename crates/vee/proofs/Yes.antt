@@ -48,7 +48,7 @@ module _ {A : Type 0} {P : A → Type 0} where
   join (also p e) f = also p (join e f)
 
 -- a yes says that each is good
-found-good : {E : List ℕ → ℕ → ℕ → ℕ → ℕ → Type 0} {i j : ℕ} {ws : List (List ℕ)} → Found E i ws (answer.Yes j) → Every (λ w. Good (E w)) ws
+pub found-good : {E : List ℕ → ℕ → ℕ → ℕ → ℕ → Type 0} {i j : ℕ} {ws : List (List ℕ)} → Found E i ws (answer.Yes j) → Every (λ w. Good (E w)) ws
 found-good all-good = none
 found-good (good g f) = also g (found-good f)
 

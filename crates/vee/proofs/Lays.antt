@@ -20,6 +20,10 @@ use Rattle.vee.specs.Filled.{Verdict, Filled}
 use Rattle.vee.proofs.Closing.{distances, cycle}
 use Rattle.vee.proofs.Offers.{Plus, old, new, same, at-place, plus-part, begun}
 
+-- a wait's offer: its weight is the lesser of w and the duration
+pub wait-offered : {b : Part} {k i j f g p d : ℕ} {t t′ : List ℕ} → k ≡ 4 → d ≡ min f p → OfferedOf (takesOf b 0 d) i j 0 d t t′ → Put b k i j f g p t t′
+wait-offered {b} {i = i} {j = j} {t = t} {t′ = t′} e h o = wait-put e (subst (λ (d : ℕ). OfferedOf (takesOf b 0 d) i j 0 d t t′) h o)
+
 -- the edges of a sheet are between its points
 pub inside : {s w : List ℕ} {m n q : ℕ} → SheetReady s w m n → q ≤ m → (X Y u d : ℕ) → SheetEdge s w q X Y u d → (X < n) × (Y < n)
 inside {s} {w} {m} {n} {q} r h X Y u d e = go (e .edge)

@@ -1,12 +1,12 @@
 -- The rows of a sheet, each laid into a table. Assumes nothing.
-use mathlib.Core.Path.{_≡_, refl, sym, subst}
-use mathlib.Core.Logic.{_⊎_, inl, inr, ⊎-elim}
+use mathlib.Core.Path.{_≡_, refl, subst}
+use mathlib.Core.Logic.{_⊎_, inl, inr}
 use mathlib.Core.Bool.{Bool, true, false}
 use mathlib.Core.List.{List}
-use Prim.Native.Nat.{ℕ, min, _+_, _*_, _<_, _≤_}
+use Prim.Native.Nat.{ℕ, min, _+_, _<_, _≤_}
 use native.Mathlib.Omega.{arith}
 use native.Mathlib.Decide.{ℕ-discrete}
-use lib.ListN.{length, getD}
+use lib.ListN.{length}
 use Rattle.plan.specs.Limits.{farthest}
 use Rattle.vee.specs.declared.table.Part.{Part}
 use Rattle.vee.specs.Tables.{side, room, at}
@@ -18,7 +18,11 @@ use Rattle.vee.specs.Tables.{Closed}
 use Rattle.vee.specs.Steps.{CloseDone}
 use Rattle.vee.specs.Filled.{Verdict, Filled}
 use Rattle.vee.proofs.Closing.{distances, cycle}
-use Rattle.vee.proofs.Offers.{Plus, old, new, same, plus-part, begun}
+use Rattle.vee.proofs.Offers.{Plus, old, new, same, at-place, plus-part, begun}
+
+-- a wait's offer: its weight is the lesser of w and the duration
+pub wait-offered : {b : Part} {k i j f g p d : ℕ} {t t′ : List ℕ} → k ≡ 4 → d ≡ min f p → OfferedOf (takesOf b 0 d) i j 0 d t t′ → Put b k i j f g p t t′
+wait-offered {b} {i = i} {j = j} {t = t} {t′ = t′} e h o = wait-put e (subst (λ (d : ℕ). OfferedOf (takesOf b 0 d) i j 0 d t t′) h o)
 
 -- the edges of a sheet are between its points
 pub inside : {s w : List ℕ} {m n q : ℕ} → SheetReady s w m n → q ≤ m → (X Y u d : ℕ) → SheetEdge s w q X Y u d → (X < n) × (Y < n)
@@ -80,7 +84,7 @@ module _ (b : Part) (s w : List ℕ) (n q : ℕ) (t : List ℕ) (ready : LayRead
 
   -- one offer of a row
   one-more : (t′ : List ℕ) (i j v c : ℕ) → i < n → j < n → v ≤ farthest → c ≤ farthest → OfferedOf (takesOf b v c) i j v c t t′ → Drawn (PartOf b (Plus (SheetEdge s w q) i j v c)) n (at t′)
-  one-more t′ i j v c hi hj hv hc o = plus-part b (SheetEdge s w q) n (sr .few) t t′ (ready .so-far .drawn) in-rows i j v c hi hj hv hc (takesOf b v c) refl (o .does)
+  one-more t′ i j v c hi hj hv hc o = plus-part b (SheetEdge s w q) n (at t) (at t′) (ready .so-far .drawn) in-rows i j v c hi hj hv hc (takesOf b v c) refl (at-place (sr .few) hi hj o)
 
   module _ (t′ : List ℕ) (long : length t′ ≡ room) where
     ordinary-row : kindAt s q ≡ 3 → OfferedOf (takesOf b (firstAt s q) (secondAt s q)) (fromAt s q) (toAt s q) (firstAt s q) (secondAt s q) t t′ → Drawing b s w n (q + 1) t′
@@ -162,9 +166,8 @@ module _ (b : Part) (s w : List ℕ) (n q : ℕ) (t : List ℕ) (ready : LayRead
             b
             F′
             n
-            (sr .few)
-            t″
-            t′
+            (at t″)
+            (at t′)
             (one-more t″ (fromAt s q) (toAt s q) (by w (overAt s q)) 0 (from-in h) (to-in h) (sr .durations (overAt s q)) (omega arith) o)
             (λ X Y u d e. inside sr (omega (arith, ready .below)) X Y u d (to′ X Y u d e))
             (toAt s q)
@@ -177,7 +180,7 @@ module _ (b : Part) (s w : List ℕ) (n q : ℕ) (t : List ℕ) (ready : LayRead
             (sr .durations (overAt s q))
             (takesOf b 0 (by w (overAt s q)))
             refl
-            (o′ .does)
+            (at-place (sr .few) (to-in h) (from-in h) o′)
 
   -- what row q's offers ask
   pub over-in : overAt s q < side
@@ -206,7 +209,7 @@ module _ (b : Part) (s w : List ℕ) (n q : ℕ) (t : List ℕ) (ready : LayRead
 
 -- before the first row
 pub none-yet : (b : Part) (s w : List ℕ) (n : ℕ) (t : List ℕ) → n ≤ side → Begun t → Drawing b s w n 0 t
-none-yet b s w n t few h = record { long = h .long; drawn = begun (PartOf b (SheetEdge s w 0)) n t few (λ X Y u d p. omega (arith, p .edge .below)) h }
+none-yet b s w n t few h = record { long = h .long; drawn = begun (PartOf b (SheetEdge s w 0)) n (at t) (λ X Y u d p. omega (arith, p .edge .below)) (record { self = λ x l. h .self x (omega arith); other = λ x y l k. h .other x y (omega arith) (omega arith) }) }
 
 -- after the last
 pub drawn-all : {b : Part} {s w : List ℕ} {n m q : ℕ} {t : List ℕ} → m ≤ q → (q ≤ m) × Drawing b s w n q t → Drawing b s w n m t

@@ -1,24 +1,19 @@
 -- What a plan that is not refused is, as the test needs it: each record's points are there and its numbers small, a watched
 -- point has one link, and the kinds do not fall. Assumes nothing.
-use mathlib.Core.Path.{_≡_, refl, sym, subst, ap, _∙_}
+use mathlib.Core.Path.{_≡_, refl, sym, subst}
 use mathlib.Core.Bool.{Bool, true, false, _||_}
 use mathlib.Core.List.{List, [], _∷_, _++_, append-assoc}
-use Prim.Native.Nat.{ℕ, zero, suc, _+_, _-_, _<_, _≤_}
+use Prim.Native.Nat.{ℕ, suc, _+_, _<_, _≤_}
 use native.Mathlib.Omega.{arith}
-use lib.Dec.{eqb}
-use lib.IntN.{ℤ, pos, negsuc}
+use lib.IntN.{ℤ, pos}
 use lib.Signed.{leZ}
 use lib.ListN.{length, getD}
-use borrow.Author.Tests.{eqb-true, leb-true, eq-eqb}
+use borrow.Author.Tests.{eqb-true, eq-eqb}
 use Rattle.plan.specs.Choice.{if_then_else_}
 use Rattle.plan.specs.Limits.{mostPoints, farthest}
 use Rattle.plan.specs.APlan.{point, link, is, endsAt, one, howMany, some, watched, firstThat, linkTo, blank, gapOf}
-use Rattle.plan.specs.ReplyNumbers.{after, lastKind}
 use Rattle.plan.specs.declared.Record.{Record}
-use Rattle.vee.proofs.Rules.{Kept, Valid, no-more, one-more, Sort, a-point, a-link, an-ordinary, a-wait, sort, each, both}
-
-clash : {A : Type 0} → true ≡ false → A
-clash e = absurd (let z : _≡_ {A = ℕ} 0 1 = cc in omega arith)
+use Rattle.vee.proofs.Rules.{Valid, no-more, one-more, Sort, a-point, a-link, an-ordinary, a-wait, sort, each, both, clash}
 
 module _ (so : Record → Bool) where
   pub more : (xs ys : List Record) → howMany so (xs ++ ys) ≡ howMany so xs + howMany so ys
@@ -99,6 +94,24 @@ whole rs v q h =
         let ff = first-front (endsAt (r .b)) pre (r ∷ post) k in
         w-wait e (omega arith) (omega arith) (ff .0) f (rw (ff .1) l)
 
+-- what is known of a link: its points are there, its bounds are natural numbers, and no other link ends where it does
+pub record Linked (rs : List Record) (r : Record) : Type 0 where
+  pub x : ℕ
+  pub y : ℕ
+  pub from : r .a < howMany (is point) rs
+  pub to : r .b < howMany (is point) rs
+  pub least : r .first ≡ pos x
+  pub most : r .second ≡ pos y
+  pub some : x ≤ y
+  pub short : y ≤ farthest
+  pub alone : linkTo rs (r .b) ≡ r
+
+pub linked : {rs : List Record} {r : Record} → r .kind ≡ 2 → Whole rs r → Linked rs r
+linked e (w-point k _) = absurd (omega arith)
+linked e (w-link {x} {y} k a b f g l m u) = record { x = x; y = y; from = a; to = b; least = f; most = g; some = l; short = m; alone = u }
+linked e (w-ordinary k _ _ _ _) = absurd (omega arith)
+linked e (w-wait k _ _ _ _ _) = absurd (omega arith)
+
 -- the link that ends at a watched point
 pub record TheLink (rs : List Record) (C : ℕ) : Type 0 where
   pub place : ℕ
@@ -112,3 +125,15 @@ the-link rs C w =
     let t = there (endsAt C) rs w in
     let k = both (is link (linkTo rs C)) _ (t .3) in
     record { place = t .0; listed = t .1; here = t .2; kind = eqb-true _ _ (k .0); end = sym (eqb-true C _ (k .1)) }
+
+pub link-of : (rs : List Record) → Valid [] rs → (C : ℕ) → watched rs C ≡ true → Linked rs (linkTo rs C)
+link-of rs v C w =
+    let t = the-link rs C w in
+    subst (λ (r : Record). Linked rs r) (t .here) (linked (rw (t .here) (t .kind)) (whole rs v (t .place) (t .listed)))
+
+-- a signed number that is a natural one
+pub gap-up : {z : ℤ} {x : ℕ} → z ≡ pos x → gapOf z .up ≡ x
+gap-up e = rw e refl
+
+pub gap-down : {z : ℤ} {x : ℕ} → z ≡ pos x → gapOf z .down ≡ 0
+gap-down e = rw e refl

@@ -70,7 +70,7 @@ pub data Sort (pre : List Record) (r : Record) : Type 0 where
   an-ordinary : r .kind ≡ 3 → r .a < howMany (is point) pre → r .b < howMany (is point) pre → gapOf (r .first) .up ≤ farthest → gapOf (r .first) .down ≤ farthest → Sort pre r
   a-wait : {w : ℕ} → r .kind ≡ 4 → r .a < howMany (is point) pre → r .b < howMany (is point) pre → watched pre (r .b) ≡ true → r .first ≡ pos w → leZ (pos w) (linkTo pre (r .b) .second) ≡ true → Sort pre r
 
-clash : {A : Type 0} → true ≡ false → A
+pub clash : {A : Type 0} → true ≡ false → A
 clash e = absurd (let z : _≡_ {A = ℕ} 0 1 = cc in omega arith)
 
 -- a number from a to b, as ℤ has it
@@ -84,9 +84,13 @@ within m (pos a) e f = (leb-true a m f, omega arith)
 within zero (negsuc a) e f = clash (sym e)
 within (suc m) (negsuc a) e f = (omega arith, omega (arith, leb-true a m e))
 
-not-true : (b : Bool) → not b ≡ true → b ≡ false
+pub not-true : (b : Bool) → not b ≡ true → b ≡ false
 not-true true e = cc
 not-true false e = refl
+
+pub not-false : (b : Bool) → not b ≡ false → b ≡ true
+not-false true e = refl
+not-false false e = cc
 
 nought : (x : ℤ) → leZ (pos 1) x ≡ true → (w : ℕ) × (x ≡ pos w)
 nought (pos a) e = (a, refl)

@@ -1,17 +1,15 @@
 -- The loops that look for the first bad pair. Assumes nothing.
-use mathlib.Core.Path.{_≡_, refl, subst}
-use mathlib.Core.Logic.{inl, inr}
+use mathlib.Core.Path.{_≡_}
 use mathlib.Core.Bool.{Bool, true, false, not}
-use mathlib.Core.List.{List}
 use Prim.Native.Nat.{ℕ, _+_, _<_, _≤_}
 use native.Mathlib.Omega.{arith}
 use native.Mathlib.Decide.{ℕ-discrete}
 use lib.Dec.{leb}
 use borrow.Author.Tests.{leb-true, leb-false}
-use Rattle.vee.specs.declared.pairs.Pair.{Pair}
 use Rattle.vee.specs.declared.pairs.Pair.the-variants.{None, At}
 use Rattle.vee.specs.Tables.{Table, bias, none}
-use Rattle.vee.specs.Pairs.{WayOf, Reached, ReachesOf, Met, apart, met, Missed, MeetsOf, InRow, FirstPair, no-pair, pair}
+use Rattle.vee.proofs.Rules.{not-true, not-false}
+use Rattle.vee.specs.Pairs.{WayOf, Reached, ReachesOf, Met, met, MeetsOf, InRow, FirstPair, no-pair, pair}
 
 pub way : (a b v : ℕ) (r : Bool) → r ≡ leb (a + b) (v + bias) → a < none → b < none → WayOf a b v r
 way a b v true e h i = (h, i, leb-true (a + b) (v + bias) (cc))
@@ -43,14 +41,6 @@ pub meeting : (n : ℕ) (d g r : Table) (X Y : ℕ) (b : Bool) → d X Y < none 
 meeting n d g r X Y true h w = met w
 meeting n d g r X Y false h w = record { joined = h; none-reaches = w }
 
-missed : (b : Bool) → not b ≡ true → b ≡ false
-missed true e = cc
-missed false e = refl
-
-kept : (b : Bool) → not b ≡ false → b ≡ true
-kept true e = refl
-kept false e = cc
-
 -- the points below y of the row of X are no trouble
 pub record Clean (n : ℕ) (d g r : Table) (X y : ℕ) : Type 0 where
   pub within : y ≤ n
@@ -58,14 +48,14 @@ pub record Clean (n : ℕ) (d g r : Table) (X y : ℕ) : Type 0 where
 
 module _ {n : ℕ} {d g r : Table} {X y : ℕ} (s : Clean n d g r X y) where
   pub stops : (b : Bool) → not b ≡ true → y < n → MeetsOf n d g r X y b → InRow n d g r X y
-  stops b e h w = record { within = s .within; before = s .before; here = λ _. let w′ : MeetsOf n d g r X y false = rw (missed b e) at w in w′ }
+  stops b e h w = record { within = s .within; before = s .before; here = λ _. let w′ : MeetsOf n d g r X y false = rw (not-true b e) at w in w′ }
 
   pub goes-on : (b : Bool) → not b ≡ false → y < n → MeetsOf n d g r X y b → Clean n d g r X (y + 1)
   goes-on b e h w = record { within = omega arith; before = before }
     where
       before : (Y : ℕ) → Y < y + 1 → Met n d g r X Y
       before Y l = elim (ℕ-discrete Y y) [
-        | yes k ↦ rw k (let w′ : MeetsOf n d g r X y true = rw (kept b e) at w in w′)
+        | yes k ↦ rw k (let w′ : MeetsOf n d g r X y true = rw (not-false b e) at w in w′)
         | no k ↦ s .before Y (omega arith)
       ]
 

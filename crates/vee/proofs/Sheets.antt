@@ -1,26 +1,24 @@
 -- The sheet of a plan that is not refused has the plan's edges, and can be tested. Assumes nothing.
-use mathlib.Core.Path.{_≡_, refl, sym, subst, ap, _∙_}
+use mathlib.Core.Path.{_≡_, refl, sym, ap, _∙_}
 use mathlib.Core.Bool.{Bool, true, false}
-use mathlib.Core.List.{List, [], _∷_, _++_}
-use Prim.Native.Nat.{ℕ, zero, suc, min, _+_, _-_, _<_, _≤_}
+use mathlib.Core.List.{List, []}
+use Prim.Native.Nat.{ℕ, _<_, _≤_}
 use native.Mathlib.Omega.{arith}
-use lib.Dec.{eqb}
 use lib.IntN.{ℤ, pos}
 use lib.Signed.{leZ}
 use lib.ListN.{length, getD}
 use borrow.Author.Tests.{eqb-true, leb-true}
 use Rattle.plan.specs.Limits.{mostPoints, mostRecords, farthest}
-use Rattle.plan.specs.APlan.{Kind, point, link, ordinary, wait, is, howMany, watched, linkTo, blank, gapOf}
+use Rattle.plan.specs.APlan.{point, link, wait, is, howMany, linkTo, blank, gapOf}
 use Rattle.plan.specs.declared.Record.{Record}
-use Rattle.network.specs.Projection.{Edge}
-use Rattle.network.specs.Projection.Edge.{ordinary as e-ordinary, there as e-there, back as e-back, wait as e-wait}
 use Rattle.vee.specs.Tables.{side}
-use Rattle.vee.specs.Sheet.{kindAt, fromAt, toAt, firstAt, secondAt, overAt, by, Laid, SheetEdge, SheetReady, sheetRoom}
+use Rattle.vee.specs.Sheet.{kindAt, fromAt, toAt, firstAt, secondAt, overAt, by, Laid, SheetEdge, SheetReady}
 use Rattle.vee.specs.Sheet.Laid.{ordinary as l-ordinary, there as l-there, back as l-back, wait as l-wait}
 use Rattle.vee.specs.Layout.{rowOf, RowIs, LaidOut}
-use Rattle.vee.specs.PlanTest.{Has, OrdinaryIn, LinkIn, WaitIn, netOf, edgesOf}
+use Rattle.vee.specs.PlanTest.{edgesOf}
 use Rattle.vee.proofs.Rules.{Valid}
-use Rattle.vee.proofs.Plans.{Whole, w-point, w-link, w-ordinary, w-wait, whole, TheLink, the-link, few-points}
+use Rattle.vee.proofs.Plans.{Whole, w-point, w-link, w-ordinary, w-wait, whole, link-of, few-points, gap-up, gap-down}
+use Rattle.vee.proofs.Edges.{Gives, ordinary-gives, there-gives, back-gives, wait-gives, to-given, from-given}
 
 -- a row by its record's kind
 module _ (s : List ℕ) (q : ℕ) (rs : List Record) (r : Record) (w : RowIs s q (rowOf rs r)) where
@@ -44,33 +42,12 @@ module _ (s : List ℕ) (q : ℕ) (rs : List Record) (r : Record) (w : RowIs s q
       go true e = absurd (n (eqb-true (r .kind) 2 e))
       go false e = rw e at (w .second)
 
-gap-up : {z : ℤ} {x : ℕ} → z ≡ pos x → gapOf z .up ≡ x
-gap-up e = rw e refl
-
-gap-down : {z : ℤ} {x : ℕ} → z ≡ pos x → gapOf z .down ≡ 0
-gap-down e = rw e refl
-
 small : {z : ℤ} {w y : ℕ} → leZ (pos w) z ≡ true → z ≡ pos y → w ≤ y
 small {z} {w} {y} h e = leb-true w y (rw e at h)
 
 module _ (rs : List Record) (v : Valid [] rs) (s : List ℕ) (out : LaidOut rs s) where
   n : ℕ
   n = howMany (is point) rs
-
-  -- the link of a watched point
-  abbrev LinkAt : Record → Type 0
-  LinkAt r = (x : ℕ) × (y : ℕ) × (r .a < howMany (is point) rs) × (r .first ≡ pos x) × (r .second ≡ pos y) × (x ≤ y) × (y ≤ farthest)
-
-  as-link : {r : Record} → r .kind ≡ 2 → Whole rs r → LinkAt r
-  as-link e (w-point k _) = absurd (omega arith)
-  as-link e (w-link {x} {y} k a b f g l m u) = (x, y, a, f, g, l, m)
-  as-link e (w-ordinary k _ _ _ _) = absurd (omega arith)
-  as-link e (w-wait k _ _ _ _ _) = absurd (omega arith)
-
-  link-of : (C : ℕ) → watched rs C ≡ true → LinkAt (linkTo rs C)
-  link-of C w =
-      let t = the-link rs C w in
-      subst (λ (r : Record). LinkAt r) (t .here) (as-link (rw (t .here) (t .kind)) (whole rs v (t .place) (t .listed)))
 
   module _ (q : ℕ) (h : q < length rs) where
     r : Record
@@ -110,12 +87,12 @@ module _ (rs : List Record) (v : Valid [] rs) (s : List ℕ) (out : LaidOut rs s
       second = λ _. omega (arith, second-plain s q rs (getD rs q blank) row (λ e. omega arith));
     }
     fits (w-wait k a b w f l) few =
-        let t = link-of (getD rs q blank .b) w in
+        let t = link-of rs v (getD rs q blank .b) w in
         record {
           from = λ _. omega (arith, row .from);
-          to = λ _. omega (arith, to-start s q rs (getD rs q blank) row k, t .2);
+          to = λ _. omega (arith, to-start s q rs (getD rs q blank) row k, t .from);
           over = omega (arith, row .over);
-          first = λ _. omega (arith, row .first, gap-up f, small l (t .4), t .6);
+          first = λ _. omega (arith, row .first, gap-up f, small l (t .most), t .short);
           second = λ _. omega (arith, second-plain s q rs (getD rs q blank) row (λ e. omega arith), gap-down f);
         }
 
@@ -140,123 +117,26 @@ module _ (rs : List Record) (v : Valid [] rs) (s : List ℕ) (out : LaidOut rs s
     durations = hd;
   }
 
-  -- the same record, as the plan names it
-  module _ (k : Kind) (r : Record) (h : Has rs k r) where
-    its-row : RowIs s (h .place) (rowOf rs r)
-    its-row = rw (← h .here) (out .rows (h .place) (h .listed))
+  -- the edges of a row are those of its record
+  module _ (w : List ℕ) (q : ℕ) (r : Record) (x : RowIs s q (rowOf rs r)) (X Y u d : ℕ) where
+    given-laid : Gives rs w r X Y u d → Laid s w q X Y u d
+    given-laid (ordinary-gives k a b f g) =
+        l-ordinary (x .kind ∙ k) (a ∙ sym (x .from)) (b ∙ sym (to-plain s q rs r x (λ e. omega arith))) (f ∙ sym (x .first)) (g ∙ sym (second-plain s q rs r x (λ e. omega arith)))
+    given-laid (there-gives k a b f g) = l-there (x .kind ∙ k) (a ∙ sym (x .from)) (b ∙ sym (to-plain s q rs r x (λ e. omega arith))) (f ∙ ap (by w) (sym (x .over))) g
+    given-laid (back-gives k a b f g) = l-back (x .kind ∙ k) (a ∙ sym (to-plain s q rs r x (λ e. omega arith))) (b ∙ sym (x .from)) f (g ∙ ap (by w) (sym (x .over)))
+    given-laid (wait-gives k a b f g) = l-wait (x .kind ∙ k) (a ∙ sym (x .from)) (b ∙ sym (to-start s q rs r x k)) f (rw (x .first, x .over) g)
 
-    its-whole : Whole rs r
-    its-whole = rw (← h .here) (whole rs v (h .place) (h .listed))
-
-  link-ends : {r : Record} → r .kind ≡ 2 → Whole rs r → linkTo rs (r .b) ≡ r
-  link-ends e (w-point k _) = absurd (omega arith)
-  link-ends e (w-link k a b f g l m u) = u
-  link-ends e (w-ordinary k _ _ _ _) = absurd (omega arith)
-  link-ends e (w-wait k _ _ _ _ _) = absurd (omega arith)
+    laid-given : Laid s w q X Y u d → Gives rs w r X Y u d
+    laid-given (l-ordinary k a b f g) = let e : r .kind ≡ 3 = sym (x .kind) ∙ k in ordinary-gives e (a ∙ x .from) (b ∙ to-plain s q rs r x (λ h. omega arith)) (f ∙ x .first) (g ∙ second-plain s q rs r x (λ h. omega arith))
+    laid-given (l-there k a b f g) = let e : r .kind ≡ 2 = sym (x .kind) ∙ k in there-gives e (a ∙ x .from) (b ∙ to-plain s q rs r x (λ h. omega arith)) (f ∙ ap (by w) (x .over)) g
+    laid-given (l-back k a b f g) = let e : r .kind ≡ 2 = sym (x .kind) ∙ k in back-gives e (a ∙ to-plain s q rs r x (λ h. omega arith)) (b ∙ x .from) f (g ∙ ap (by w) (x .over))
+    laid-given (l-wait k a b f g) = let e : r .kind ≡ 4 = sym (x .kind) ∙ k in wait-gives e (a ∙ x .from) (b ∙ to-start s q rs r x e) f (rw (x .first, x .over) at g)
 
   module _ (w : List ℕ) where
-    -- every edge of the plan is one of the sheet
     pub to-sheet : (X Y u d : ℕ) → edgesOf rs w X Y u d → SheetEdge s w (length rs) X Y u d
-    to-sheet X Y u d (e-ordinary o) =
-        let r = o .what in
-        let x = its-row ordinary r (o .has) in
-        let k : r .kind ≡ 3 = eqb-true (r .kind) 3 (o .has .kind) in
-        record {
-          row = o .has .place;
-          below = o .has .listed;
-          edge = l-ordinary (x .kind ∙ k) (sym (x .from ∙ o .from)) (sym (to-plain s (o .has .place) rs r x (λ e. omega arith) ∙ o .to)) (sym (x .first ∙ o .up)) (sym (second-plain s (o .has .place) rs r x (λ e. omega arith) ∙ o .down));
-        }
-    to-sheet X Y u d (e-there l) =
-        let r = l .what in
-        let x = its-row link r (l .has) in
-        let k : r .kind ≡ 2 = eqb-true (r .kind) 2 (l .has .kind) in
-        record {
-          row = l .has .place;
-          below = l .has .listed;
-          edge = l-there (x .kind ∙ k) (sym (x .from ∙ l .from)) (sym (to-plain s (l .has .place) rs r x (λ e. omega arith) ∙ l .to)) (ap (by w) (sym (x .over ∙ l .to))) refl;
-        }
-    to-sheet X Y u d (e-back l) =
-        let r = l .what in
-        let x = its-row link r (l .has) in
-        let k : r .kind ≡ 2 = eqb-true (r .kind) 2 (l .has .kind) in
-        record {
-          row = l .has .place;
-          below = l .has .listed;
-          edge = l-back (x .kind ∙ k) (sym (to-plain s (l .has .place) rs r x (λ e. omega arith) ∙ l .to)) (sym (x .from ∙ l .from)) refl (ap (by w) (sym (x .over ∙ l .to)));
-        }
-    to-sheet X Y u d (e-wait {C = C} {w = long} l t) =
-        let r = t .what in
-        let x = its-row wait r (t .has) in
-        let k : r .kind ≡ 4 = eqb-true (r .kind) 4 (t .has .kind) in
-        let k′ : l .what .kind ≡ 2 = eqb-true (l .what .kind) 2 (l .has .kind) in
-        let u : linkTo rs (l .what .b) ≡ l .what = link-ends k′ (its-whole link (l .what) (l .has)) in
-        let b : r .b ≡ l .what .b = t .until ∙ sym (l .to) in
-        let a : linkTo rs (r .b) .a ≡ Y = rw b (ap (λ (r : Record). r .a) u ∙ l .from) in
-        record {
-          row = t .has .place;
-          below = t .has .listed;
-          edge = l-wait (x .kind ∙ k) (sym (x .from ∙ t .holds)) (sym (to-start s (t .has .place) rs r x k ∙ a)) refl (rw (x .first ∙ gap-up (t .long), x .over ∙ t .until) refl);
-        }
-
-    -- and every edge of the sheet one of the plan
-    the-link-in : (C : ℕ) → watched rs C ≡ true → (x : ℕ) × (y : ℕ) × LinkIn rs (linkTo rs C .a) x y C
-    the-link-in C h =
-        let t = the-link rs C h in
-        let g = link-of C h in
-        (g .0, g .1, record { what = linkTo rs C; has = record { place = t .place; listed = t .listed; here = t .here; kind = rw (t .kind) refl }; from = refl; to = t .end; least = g .3; most = g .4 })
-
-    as-wait : {r : Record} → r .kind ≡ 4 → Whole rs r → (watched rs (r .b) ≡ true) × ((w : ℕ) × (r .first ≡ pos w))
-    as-wait e (w-point k _) = absurd (omega arith)
-    as-wait e (w-link k _ _ _ _ _ _ _) = absurd (omega arith)
-    as-wait e (w-ordinary k _ _ _ _) = absurd (omega arith)
-    as-wait e (w-wait {w} k a b h f l) = (h, (w, f))
-
-    module _ (q : ℕ) (h : q < length rs) where
-      the : Record
-      the = getD rs q blank
-
-      its : RowIs s q (rowOf rs (getD rs q blank))
-      its = out .rows q h
-
-      has : (k : Kind) → is k (getD rs q blank) ≡ true → Has rs k (getD rs q blank)
-      has k e = record { place = q; listed = h; here = refl; kind = e }
-
-      link-in : (X Y : ℕ) → kindAt s q ≡ 2 → X ≡ fromAt s q → Y ≡ toAt s q → (x : ℕ) × (y : ℕ) × LinkIn rs X x y Y
-      link-in X Y e a b =
-          let k : getD rs q blank .kind ≡ 2 = sym (its .kind) ∙ e in
-          let g = as-link k (whole rs v q h) in
-          (g .0, g .1, record { what = getD rs q blank; has = has link (rw k refl); from = sym (a ∙ its .from); to = sym (b ∙ to-plain s q rs (getD rs q blank) its (λ e. omega arith)); least = g .3; most = g .4 })
-
-      over-is : (Y : ℕ) → kindAt s q ≡ 2 → Y ≡ toAt s q → overAt s q ≡ Y
-      over-is Y e b = let k : getD rs q blank .kind ≡ 2 = sym (its .kind) ∙ e in its .over ∙ sym (b ∙ to-plain s q rs (getD rs q blank) its (λ e. omega arith))
-
-      back-to : (X Y u d : ℕ) → Laid s w q X Y u d → edgesOf rs w X Y u d
-      back-to X Y u d (l-ordinary e a b f g) =
-          let k : getD rs q blank .kind ≡ 3 = sym (its .kind) ∙ e in
-          e-ordinary (record {
-            what = getD rs q blank;
-            has = has ordinary (rw k refl);
-            from = sym (a ∙ its .from);
-            to = sym (b ∙ to-plain s q rs (getD rs q blank) its (λ e. omega arith));
-            up = sym (f ∙ its .first);
-            down = sym (g ∙ second-plain s q rs (getD rs q blank) its (λ e. omega arith));
-          })
-      back-to X Y u d (l-there e a b f g) =
-          let l = link-in X Y e a b in
-          let o = over-is Y e b in
-          rw (f, g, o) (e-there (l .2))
-      back-to X Y u d (l-back e a b f g) =
-          let l = link-in Y X e b a in
-          let o = over-is X e a in
-          rw (f, g, o) (e-back (l .2))
-      back-to X Y u d (l-wait e a b f g) =
-          let k : getD rs q blank .kind ≡ 4 = sym (its .kind) ∙ e in
-          let t = as-wait k (whole rs v q h) in
-          let l = the-link-in (getD rs q blank .b) (t .0) in
-          let y : WaitIn rs X (getD rs q blank .b) (t .1 .0) = record { what = getD rs q blank; has = has wait (rw k refl); holds = sym (a ∙ its .from); until = refl; long = t .1 .1 } in
-          let z : linkTo rs (getD rs q blank .b) .a ≡ Y = sym (b ∙ to-start s q rs (getD rs q blank) its k) in
-          let m : firstAt s q ≡ t .1 .0 = its .first ∙ gap-up (t .1 .1) in
-          rw (f, g, m, its .over, ← z) (e-wait (l .2) y)
+    to-sheet X Y u d e =
+        let g = to-given rs v w X Y u d e in
+        record { row = g .place; below = g .listed; edge = given-laid w (g .place) _ (out .rows (g .place) (g .listed)) X Y u d (g .gives) }
 
     pub from-sheet : (X Y u d : ℕ) → SheetEdge s w (length rs) X Y u d → edgesOf rs w X Y u d
-    from-sheet X Y u d e = back-to (e .row) (e .below) X Y u d (e .edge)
+    from-sheet X Y u d e = from-given rs v w X Y u d (record { place = e .row; listed = e .below; gives = laid-given w (e .row) _ (out .rows (e .row) (e .below)) X Y u d (e .edge) })

@@ -1,4 +1,4 @@
--- The test has at most one answer to a plan, and each projection before the answer is good. Assumes nothing.
+-- The test has at most one answer to a plan. Assumes nothing.
 use mathlib.Core.Path.{_≡_, refl, ap}
 use mathlib.Core.Logic.{_⊎_, inl, inr}
 use mathlib.Core.List.{List, [], _∷_}

@@ -1,32 +1,30 @@
 -- The test of a plan, put together. Assumes nothing.
-use mathlib.Core.Path.{_≡_, refl, sym, subst, ap, _∙_}
-use mathlib.Core.Logic.{_≢_}
+use mathlib.Core.Path.{_≡_, refl, ap}
 use mathlib.Core.Bool.{Bool, true, false, not}
-use mathlib.Core.List.{List, [], _∷_, _++_, map}
+use mathlib.Core.List.{List, [], _∷_}
 use Prim.Native.Nat.{ℕ, zero, suc, _+_, _-_, _<_, _≤_}
 use native.Mathlib.Omega.{arith}
 use native.Mathlib.Decide.{ℕ-discrete, decLt}
 use borrow.Author.Tests.{ne-eqb, ltb-false}
 use lib.Dec.{eqb, ltb}
-use lib.ListN.{length, getD, take, replicate, length-replicate, getD-replicate, length-take, List·getD-eq-default}
+use lib.ListN.{length, getD, take, length-replicate, getD-replicate, length-take, List·getD-eq-default}
 use Rattle.plan.specs.Limits.{mostPoints, mostRecords, farthest}
 use native.Mathlib.Numerals.{add-one}
 use lib.Seq.{getD-take, take-suc, take-all}
-use Rattle.plan.specs.APlan.{point, link, is, one, howMany, blank, gapOf, recordsOf}
+use Rattle.plan.specs.APlan.{point, link, is, one, howMany, blank, recordsOf}
 use Rattle.plan.specs.declared.Record.{Record}
 use Rattle.plan.specs.declared.Plan.{Plan}
 use Rattle.plan.specs.declared.Refusal.{Refusal}
 use Rattle.plan.specs.ReplyNumbers.{checkOf}
 use Rattle.vee.specs.declared.Answer.{Answer}
 use Rattle.vee.specs.declared.Answer.the-variants as answer
-use Rattle.vee.specs.Tables.{side}
-use Rattle.vee.specs.Sheet.{SheetEdge, SheetReady, firstAt, secondAt, by}
+use Rattle.vee.specs.Sheet.{by}
 use Rattle.vee.specs.Layout.{LaidOut}
 use Rattle.vee.proofs.Laws.{same-cycle, same-good, same-bad}
 use Rattle.vee.specs.PlanTest.{Span, spanOf, spans, projections, many, mostProjections, unset, Found, all-good, good, cycle, pair, edgesOf, Tested, refused, too-many, tested}
 use Rattle.vee.specs.Walked.{spanAt, spansIn, RowsReady, CountedAs, WalkReady, Walked}
 use Rattle.vee.proofs.Rules.{Valid, valid}
-use Rattle.vee.proofs.Plans.{Whole, w-point, w-link, w-ordinary, w-wait, whole, more}
+use Rattle.vee.proofs.Plans.{Whole, w-point, w-link, w-ordinary, w-wait, whole, linked, gap-up, more}
 use Rattle.vee.proofs.Sheets.{sheet-ready, to-sheet, from-sheet}
 use Rattle.vee.proofs.Orders.{Up, up-none, up-more, ups, from-start, span-here, span-not}
 
@@ -47,10 +45,7 @@ data All : List Span → Type 0 where
   also : {l : Span} {ls : List Span} → Able l → All ls → All (l ∷ ls)
 
 able : {RS : List Record} {r : Record} → r .kind ≡ 2 → Whole RS r → Able (spanOf r)
-able e (w-point k _) = absurd (omega arith)
-able e (w-link k a b f g l m u) = rw (f, g) (record { some = l; short = m })
-able e (w-ordinary k _ _ _ _) = absurd (omega arith)
-able e (w-wait k _ _ _ _ _) = absurd (omega arith)
+able e w = let l = linked e w in record { some = omega (arith, gap-up (l .least), gap-up (l .most), l .some); short = omega (arith, gap-up (l .most), l .short) }
 
 all-able : (RS rs : List Record) → ((i : ℕ) → i < length rs → Whole RS (getD rs i blank)) → All (spans rs)
 unfolding spans
@@ -68,6 +63,13 @@ able-at s past zero a h q l m = absurd (omega arith)
 able-at s past (suc k) (also x a) h q l m = elim (ℕ-discrete q (past - suc k)) [
   | yes e ↦ rw e x
   | no e ↦ able-at s past k a (omega arith) q l (omega arith)
+]
+
+-- durations that are not set
+pub nothing-lasts : (C : ℕ) → by unset C ≤ farthest
+nothing-lasts C = elim (decLt C mostPoints) [
+  | yes h ↦ omega (arith, getD-replicate {A = ℕ} mostPoints C 0 0 h)
+  | no h ↦ omega (arith, List·getD-eq-default {A = ℕ} unset 0 {n = C} (omega (arith, length-replicate {A = ℕ} mostPoints 0)))
 ]
 
 module _ (rs : List Record) (v : Valid [] rs) (s : List ℕ) (out : LaidOut rs s) (few : length rs ≤ mostRecords) where
@@ -118,12 +120,6 @@ module _ (rs : List Record) (v : Valid [] rs) (s : List ℕ) (out : LaidOut rs s
     some = λ q h k. able-rows q h k .some;
     short = λ q h k. able-rows q h k .short;
   }
-
-  nothing-lasts : (C : ℕ) → by unset C ≤ farthest
-  nothing-lasts C = elim (decLt C mostPoints) [
-    | yes h ↦ omega (arith, getD-replicate {A = ℕ} mostPoints C 0 0 h)
-    | no h ↦ omega (arith, List·getD-eq-default {A = ℕ} unset 0 {n = C} (omega (arith, length-replicate {A = ℕ} mostPoints 0)))
-  ]
 
   pub may-walk : many (spansIn s (howMany (is point) rs + howMany (is link) rs) (howMany (is link) rs)) ≤ mostProjections → WalkReady s unset (length rs) (howMany (is point) rs) (howMany (is point) rs + howMany (is link) rs) (howMany (is link) rs) 0
   may-walk h = record {

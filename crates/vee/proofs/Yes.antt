@@ -6,7 +6,6 @@ use mathlib.Core.List.{List, [], _∷_, _++_}
 use Prim.Native.Nat.{ℕ, zero, suc, min, _+_, _-_, _<_, _≤_}
 use native.Mathlib.Omega.{arith}
 use native.Mathlib.Decide.{ℕ-discrete}
-use lib.IntN.{pos}
 use lib.ListN.{length, getD, set, length-set, length-replicate}
 use lib.Seq.{getD-set-same, getD-set-other}
 use borrow.Author.Tests.{eqb-true}
@@ -24,14 +23,14 @@ use Rattle.vee.proofs.Laws.{same-good}
 use Rattle.vee.specs.PlanTest.{LinkIn, netOf, Span, spanOf, spans, spread, projections, unset, many, mostProjections, Found, all-good, good, edgesOf, Tested, tested}
 use Rattle.vee.proofs.Single.{one-answer}
 use Rattle.vee.proofs.Rules.{Valid}
-use Rattle.vee.proofs.Plans.{Whole, w-point, w-link, w-ordinary, w-wait, whole, few-points}
+use Rattle.vee.proofs.Plans.{Whole, whole, Linked, linked, few-points}
 use Rattle.vee.proofs.Orders.{span-here, span-not}
 use Rattle.vee.proofs.Testing.{accepted-plan}
 use Rattle.vee.proofs.Walks.{as-many}
 
 -- ---- what holds of each of a list
 
-data Every {A : Type 0} (P : A → Type 0) : List A → Type 0 where
+pub data Every {A : Type 0} (P : A → Type 0) : List A → Type 0 where
   none : Every P []
   also : {x : A} {xs : List A} → P x → Every P xs → Every P (x ∷ xs)
 
@@ -49,7 +48,7 @@ module _ {A : Type 0} {P : A → Type 0} where
   join (also p e) f = also p (join e f)
 
 -- a yes says that each is good
-found-good : {E : List ℕ → ℕ → ℕ → ℕ → ℕ → Type 0} {i j : ℕ} {ws : List (List ℕ)} → Found E i ws (answer.Yes j) → Every (λ w. Good (E w)) ws
+pub found-good : {E : List ℕ → ℕ → ℕ → ℕ → ℕ → Type 0} {i j : ℕ} {ws : List (List ℕ)} → Found E i ws (answer.Yes j) → Every (λ w. Good (E w)) ws
 found-good all-good = none
 found-good (good g f) = also g (found-good f)
 
@@ -75,7 +74,7 @@ module _ {P : Span → Type 0} where
       subst (λ (r : Record). P (spanOf r)) (h .here) (span-of rs e (h .place) (h .listed) (rw (h .here) (eqb-true (l .what .kind) 2 (h .kind))))
 
   -- and the other way about
-  of-spans : (rs : List Record) → ((i : ℕ) → i < length rs → getD rs i blank .kind ≡ 2 → P (spanOf (getD rs i blank))) → Every P (spans rs)
+  pub of-spans : (rs : List Record) → ((i : ℕ) → i < length rs → getD rs i blank .kind ≡ 2 → P (spanOf (getD rs i blank))) → Every P (spans rs)
   unfolding spans
   of-spans [] h = none
   of-spans (r ∷ rs) h =
@@ -84,21 +83,6 @@ module _ {P : Span → Type 0} where
         | yes l ↦ rw (span-here r rs l) (also (h 0 (omega arith) l) e)
         | no l ↦ rw (span-not r rs l) e
       ]
-
--- what an accepted plan says of a link: its C is a point, its bounds are natural numbers, and no other link ends there
-record Linked (rs : List Record) (r : Record) : Type 0 where
-  x : ℕ
-  y : ℕ
-  inside : r .b < howMany (is point) rs
-  least : r .first ≡ pos x
-  most : r .second ≡ pos y
-  alone : linkTo rs (r .b) ≡ r
-
-linked : {rs : List Record} {r : Record} → r .kind ≡ 2 → Whole rs r → Linked rs r
-linked e (w-point k _) = absurd (omega arith)
-linked e (w-link {x} {y} k a b f g l m u) = record { x = x; y = y; inside = b; least = f; most = g; alone = u }
-linked e (w-ordinary k _ _ _ _) = absurd (omega arith)
-linked e (w-wait k _ _ _ _ _) = absurd (omega arith)
 
 -- ---- the durations at the links' C
 
@@ -172,12 +156,12 @@ module _ (ω : ℕ → ℕ) where
       ]
 
 module _ (rs : List Record) (v : Valid [] rs) where
-  -- the points have places, and the links are as said above
-  few : howMany (is point) rs ≤ mostPoints
+  -- the points have places, and each link is as an accepted plan has it
+  pub few : howMany (is point) rs ≤ mostPoints
   unfolding howMany
   few = few-points v (omega arith)
 
-  a-link : (i : ℕ) → i < length rs → getD rs i blank .kind ≡ 2 → Linked rs (getD rs i blank)
+  pub a-link : (i : ℕ) → i < length rs → getD rs i blank .kind ≡ 2 → Linked rs (getD rs i blank)
   a-link i h k = linked k (whole rs v i h)
 
   -- durations in bounds give each link one of its own
@@ -190,7 +174,7 @@ module _ (rs : List Record) (v : Valid [] rs) where
           let t = a-link i h k in
           let l : LinkIn rs (r .a) (t .x) (t .y) (r .b) = record { what = r; has = record { place = i; listed = h; here = refl; kind = rw k refl }; from = refl; to = refl; least = t .least; most = t .most } in
           let m = b .within l in
-          record { place = omega (arith, t .inside, few); low = rw (t .least) (m .0); high = rw (t .most) (m .1) }
+          record { place = omega (arith, t .to, few); low = rw (t .least) (m .0); high = rw (t .most) (m .1) }
 
   -- where all that are tested are good, so is each projection in bounds: one of the list stands for it
   all-pass : Every (λ w. Good (edgesOf rs w)) (projections (spans rs) unset) → Passes (netOf rs)
@@ -216,13 +200,13 @@ all-spread f C p (suc k) w h = join (h p (omega arith) (omega arith)) (all-sprea
 -- B says of a duration that a point may have it
 module _ (B : ℕ → ℕ → Type 0) where
   -- the link's C may have each of the link's durations
-  record Able (l : Span) : Type 0 where
-    place : l .over < mostPoints
-    may : (q : ℕ) → l .least ≤ q → q ≤ l .most → B (l .over) q
+  pub record Able (l : Span) : Type 0 where
+    pub place : l .over < mostPoints
+    pub may : (q : ℕ) → l .least ≤ q → q ≤ l .most → B (l .over) q
 
   -- in each of the list the links' C have a duration that they may have, and so has each point that has one in w: what
   -- follows from that holds of the whole list
-  in-bounds : {P : List ℕ → Type 0} (ls : List Span) (w : List ℕ) → length w ≡ mostPoints → Every Able ls
+  pub in-bounds : {P : List ℕ → Type 0} (ls : List Span) (w : List ℕ) → length w ≡ mostPoints → Every Able ls
       → ((w′ : List ℕ) → Every (λ l. B (l .over) (by w′ (l .over))) ls → ((C : ℕ) → B C (by w C) → B C (by w′ C)) → P w′)
       → Every P (projections ls w)
   unfolding projections
@@ -263,7 +247,7 @@ module _ (rs : List Record) (v : Valid [] rs) where
   able : Every (Able May) (spans rs)
   able = of-spans rs (λ i h k.
       let t = a-link rs v i h k in
-      record { place = omega (arith, t .inside, few rs v); may = λ q low high. record { allowed = allows t q low high } })
+      record { place = omega (arith, t .to, few rs v); may = λ q low high. record { allowed = allows t q low high } })
 
   -- where each projection in bounds is good, so are all that are tested
   passing-good : Passes (netOf rs) → Every (λ w. Good (edgesOf rs w)) (projections (spans rs) unset)

@@ -1,4 +1,4 @@
--- What a reader has to believe of the plan test: `PlanTest`, over `Tables`, `Distances`, `Judging` and `Pairs`. The other
+-- What a reader has to believe of the plan test: `PlanTest`, over `Judging`. `TestOf` is the same test, computed. The other
 -- pages are what private functions' contracts cite. No proofs are here.
 pub mod Tables
 pub mod Distances
@@ -8,5 +8,6 @@ pub mod Filled
 pub mod Judging
 pub mod Pairs
 pub mod PlanTest
+pub mod TestOf
 pub mod Walked
 pub mod Layout

@@ -76,7 +76,7 @@ pub(crate) fn walk(
     ensures { λ r. ⌜ Walked (now (sheet .entry)) durations m past ahead number r ⌝ }
 {
     if ahead == 0 {
-        return judge(
+        let judged = judge(
             number,
             &durations,
             sheet,
@@ -86,6 +86,7 @@ pub(crate) fn walk(
             &mut *falls,
             &mut *rises,
         );
+        return judged;
     }
     let at = (past - ahead) * WIDTH;
     let over = index(sheet[at + 5]);

@@ -1,5 +1,6 @@
 -- `vee::sheet::put` meets its contract. Assumes nothing.
-use Rattle.vee.specs.Filled.{ordinary-put, wait-put, link-put, nothing-put}
+use Rattle.vee.specs.Filled.{ordinary-put, link-put, nothing-put}
+use Rattle.vee.proofs.Lays.{wait-offered}
 use mathlib.Core.Path.{refl}
 use native.Mathlib.Omega.{arith}
 use borrow.Author.Needs.{needs}
@@ -25,7 +26,7 @@ returns : tie.Need-returns
 returns c = ordinary-put (c .before .before .if1 .taken) (c .offer-of .ensures)
 
 returns-2 : tie.Need-returns-2
-returns-2 c = wait-put (c .before .before .before .if2 .taken) (rw (← c .before .before .lesser .ensures) (c .offer-of2 .ensures))
+returns-2 c = wait-offered (c .before .before .before .if2 .taken) (c .before .before .lesser .ensures) (c .offer-of2 .ensures)
 
 returns-3 : tie.Need-returns-3
 returns-3 c = link-put (c .before .before .before .before .if3 .taken) (c .before .before .offer-of3 .ensures) (c .offer-of4 .ensures)

@@ -13,3 +13,4 @@ pub mod Play
 pub mod Lasting
 pub mod Haul
 pub mod TestYes
+pub mod SingleReply

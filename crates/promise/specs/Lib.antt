@@ -4,3 +4,4 @@
 pub mod Nets
 pub mod Runs
 pub mod Plays
+pub mod Contracts

@@ -23,4 +23,3 @@ pub mod Single
 pub mod Numbered
 pub mod Arcs
 pub mod Executable
-pub mod Cases

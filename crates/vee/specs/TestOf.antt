@@ -83,9 +83,18 @@ unfoldable pub passes : ℕ → ℕ → ℕ → Rows → Rows
 passes n k zero t = t
 passes n k (suc j) t = if ltb (entry t k k) bias then t else passes n (suc k) j (pass n k t)
 
--- the distances over the edges of a part
+-- the distances over the edges of a part: over all, over the negative ones, over the others
 abbrev pub closed : ℕ → Part → List Arc → Rows
 closed n b es = passes n 0 n (rowsOf n (atOnce b es))
+
+abbrev pub distances : ℕ → List Arc → Rows
+distances n es = closed n All es
+
+abbrev pub falling : ℕ → List Arc → Rows
+falling n es = closed n Falling es
+
+abbrev pub rising : ℕ → List Arc → Rows
+rising n es = closed n Rising es
 
 -- the first of the k numbers from i on that is so, i + k where none is
 unfoldable pub firstFrom : ℕ → ℕ → (ℕ → Bool) → ℕ
@@ -123,9 +132,9 @@ answerOf i (At X Y) = answer.Pair i X Y
 -- what is found of the projection number i, by its edges: a cycle, a pair, or nothing
 unfoldable pub judgeOf : ℕ → ℕ → List Arc → Answer
 judgeOf n i es =
-    let d = closed n All es in
+    let d = distances n es in
     if hasCycle n d then answer.Cycle i
-    else answerOf i (pairOf n (misses n d (closed n Falling es) (closed n Rising es)))
+    else answerOf i (pairOf n (misses n d (falling n es) (rising n es)))
 
 -- a yes so far goes on
 abbrev pub onward : Answer → (ℕ → Answer) → Answer

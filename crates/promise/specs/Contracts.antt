@@ -1,0 +1,61 @@
+-- Document 01, "How firm the contracts are": for each open function of `points`, `plan`, `board` and `vee`, in the order of
+-- docs/CONTRACTS.md, what its contract permits, and that this is a single reply for each argument. Assumes nothing.
+use mathlib.Core.Path.{_≡_}
+use mathlib.Core.Bool.{Bool}
+use mathlib.Core.List.{List}
+use Prim.Native.Nat.{ℕ}
+use lib.IntN.{ℤ}
+use Rattle.points.specs.Sets.{member, withOf, withoutOf, countOf, firstOf, belowOf, subsetOf}
+use Rattle.plan.specs.APlan.{points, watched, endsAt, placeOf, gapOf, recordsOf}
+use Rattle.plan.specs.ReplyNumbers.{readOf, checkOf, writeOf, writtenOf}
+use Rattle.plan.specs.declared.Plan.{Plan}
+use Rattle.plan.specs.declared.Gap.{Gap}
+use Rattle.plan.specs.declared.Found.{Found}
+use Rattle.plan.specs.declared.Reading.{Reading}
+use Rattle.plan.specs.declared.Refusal.{Refusal}
+use Rattle.board.specs.Boards.{fresh}
+use Rattle.board.specs.Replies.{replyOf}
+use Rattle.board.specs.Events.{takeOf}
+use Rattle.board.specs.Streams.{takeAllOf, saidAllOf}
+use Rattle.board.specs.Verdicts.{verdictOf}
+use Rattle.board.specs.declared.Board.{Board}
+use Rattle.board.specs.declared.Reply.{Reply}
+use Rattle.board.specs.declared.Taken.{Taken}
+use Rattle.board.specs.declared.Verdict.{Verdict}
+use Rattle.vee.specs.PlanTest.{Tested}
+use Rattle.vee.specs.declared.Answer.{Answer}
+
+-- what is permitted has at most one instance
+abbrev pub Single : {A : Type 0} → (A → Type 0) → Type 0
+Single {A} permitted = (r r′ : A) → permitted r → permitted r′ → r ≡ r′
+
+-- of a reply and of what a buffer holds after the call
+abbrev pub SingleBoth : {A : Type 0} → (A → Type 0) → (List ℕ → Type 0) → Type 0
+SingleBoth permitted held = Single permitted × Single held
+
+pub record SingleReplies : Type 0 where
+  -- points
+  pub has : (s p : ℕ) → Single (λ (r : Bool). r ≡ member s p)
+  pub with : (s p : ℕ) → Single (λ (r : ℕ). r ≡ withOf s p)
+  pub without : (s p : ℕ) → Single (λ (r : ℕ). r ≡ withoutOf s p)
+  pub count : (s : ℕ) → Single (λ (r : ℕ). r ≡ countOf s)
+  pub first : (s : ℕ) → Single (λ (r : ℕ). r ≡ firstOf s)
+  pub below : (n : ℕ) → Single (λ (r : ℕ). r ≡ belowOf n)
+  pub subset : (a b : ℕ) → Single (λ (r : Bool). r ≡ subsetOf a b)
+  -- plan
+  pub read : (bytes : List ℕ) → Single (λ (r : Reading). r ≡ readOf bytes)
+  pub check : (p : Plan) → Single (λ (r : Refusal). r ≡ checkOf p)
+  pub write : (p : Plan) (out : List ℕ) → SingleBoth (λ (r : Refusal). r ≡ writeOf p out) (λ (held : List ℕ). held ≡ writtenOf p out)
+  pub split : (d : ℤ) → Single (λ (r : Gap). r ≡ gapOf d)
+  pub points-of : (p : Plan) → Single (λ (r : ℕ). r ≡ points (recordsOf p))
+  pub link-to : (p : Plan) (q : ℕ) → Single (λ (r : Found). r ≡ placeOf (endsAt q) (recordsOf p))
+  pub is-watched : (p : Plan) (q : ℕ) → Single (λ (r : Bool). r ≡ watched (recordsOf p) q)
+  -- board
+  pub fresh : Single (λ (r : Board). r ≡ fresh)
+  pub reply-of : (p : Plan) (b : Board) → Single (λ (r : Reply). r ≡ replyOf p b)
+  pub take : (p : Plan) (b : Board) (event : List ℕ) → Single (λ (r : Taken). r ≡ takeOf p b event)
+  pub take-all : (p : Plan) (b : Board) (events room : List ℕ)
+      → SingleBoth (λ (r : Taken). r ≡ takeAllOf p b events room) (λ (held : List ℕ). held ≡ saidAllOf p b events room)
+  pub verdict-of : (p : Plan) (b : Board) → Single (λ (r : Verdict). r ≡ verdictOf p b)
+  -- vee
+  pub test : (p : Plan) → Single (λ (r : Answer). Tested p r)

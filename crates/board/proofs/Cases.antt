@@ -13,7 +13,7 @@ use Rattle.board.specs.Boards.{fresh, sound, each, largest}
 use Rattle.board.specs.Windows.{greatest, least, leastHigh}
 use Rattle.board.specs.Replies.{replyOf, stateOf, outcomeOf, bare, shut}
 use Rattle.board.specs.Events.{taken, takeOf, eventNumber, boardAfter, markAll}
-use Rattle.board.specs.Verdicts.{verdictOf, firstBroken}
+use Rattle.board.specs.Verdicts.{endedOf, verdictOf, firstBroken}
 use Rattle.board.specs.declared.Board.{Board}
 use Rattle.board.specs.declared.Place.{Place}
 use Rattle.board.specs.declared.Reply.{Reply}
@@ -83,7 +83,7 @@ record Cases : Type 0 where
   ten : replyOf circle fresh ≡ bare Stuck
 
 cases : Cases
-unfolding ones replyOf takeOf eventNumber boardAfter markAll sound each largest stateOf outcomeOf greatest least leastHigh firstBroken verdictOf member membersOf withOf belowOf subsetOf from every passing howMany some firstThat checkOf firstBad numberFor lastKind
+unfolding ones replyOf takeOf eventNumber boardAfter markAll sound each largest stateOf outcomeOf greatest least leastHigh firstBroken endedOf verdictOf member membersOf withOf belowOf subsetOf from every passing howMany some firstThat checkOf firstBad numberFor lastKind
 cases =
     record {
       four = refl;

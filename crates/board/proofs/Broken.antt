@@ -1,12 +1,12 @@
--- The loop that looks for the first broken record: that a record is judged by its own points and by where the link to its
+-- What the verdict rests on: that only an accepted plan gets one, that a record is judged by its own points and by where the link to its
 -- second one starts, and what a turn, a broken record and the end give. Assumes nothing.
 use mathlib.Core.Path.{_≡_, refl}
-use mathlib.Core.Bool.{Bool, true, false}
+use mathlib.Core.Bool.{Bool, true, false, not}
 use mathlib.Core.List.{List}
 use Prim.Native.Nat.{ℕ, _+_, _-_, _%_, _≤_, _<_, min}
 use native.Mathlib.Omega.{arith}
 use native.Mathlib.Numerals.{add-one}
-use lib.Dec.{leb}
+use lib.Dec.{eqb, leb}
 use lib.ListN.{length, drop, getD, drop-of-length-le}
 use lib.Seq.{drop-cons}
 use borrow.Author.Tests.{eqb-true, ne-eqb}
@@ -14,9 +14,12 @@ use Rattle.plan.specs.Choice.{if_then_else_}
 use Rattle.plan.specs.Limits.{mostPoints}
 use Rattle.plan.specs.APlan.{ordinary, wait, is, linkTo, gapOf, blank}
 use Rattle.plan.proofs.Accepted.{Rules, Accepted}
+use Rattle.plan.specs.ReplyNumbers.{checkOf}
 use Rattle.plan.specs.declared.Record.{Record}
+use Rattle.plan.specs.declared.Plan.{Plan}
+use Rattle.plan.specs.declared.Refusal.{Refusal}
 use Rattle.board.specs.Boards.{minute}
-use Rattle.board.specs.Verdicts.{ordinaryKept, waitKept, kept, firstBroken}
+use Rattle.board.specs.Verdicts.{ordinaryKept, waitKept, kept, firstBroken, endedOf}
 use Rattle.board.specs.Inside.{noEnd, LinksOf, keptFrom}
 use Rattle.board.specs.declared.Board.{Board}
 use Rattle.board.specs.declared.Verdict.the-variants.{Kept, Broken}
@@ -67,3 +70,12 @@ module _ (rs : List Record) (b : Board) (i : ℕ) where
   pub broken-end : length rs ≤ i → Kept ≡ firstBroken rs b i (drop i rs)
   unfolding firstBroken
   broken-end h = rw (drop-of-length-le rs h)
+
+-- a plan whose board is not refused is accepted
+pub ended-accepted : (p : Plan) (b : Board) → endedOf p b .number ≡ 0 → checkOf p .number ≡ 0
+unfolding endedOf
+ended-accepted p b = go (checkOf p) _ (eqb (checkOf p .number) 0) refl
+  where
+    go : (x y : Refusal) (t : Bool) → eqb (x .number) 0 ≡ t → (if not t then x else y) .number ≡ 0 → x .number ≡ 0
+    go x y true f e = eqb-true (x .number) 0 f
+    go x y false f e = e

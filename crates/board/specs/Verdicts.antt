@@ -5,9 +5,11 @@ use Prim.Native.Nat.{ℕ, suc, _+_, _-_, min}
 use lib.Dec.{eqb, leb}
 use Rattle.plan.specs.Choice.{if_then_else_}
 use Rattle.plan.specs.APlan.{ordinary, wait, is, linkTo, gapOf, recordsOf}
-use Rattle.plan.specs.ReplyNumbers.{checkOf}
+use Rattle.plan.specs.ReplyNumbers.{checkOf, refusal, accepted}
 use Rattle.plan.specs.declared.Record.{Record}
 use Rattle.plan.specs.declared.Plan.{Plan}
+use Rattle.plan.specs.declared.Refusal.{Refusal}
+use Rattle.bounds.specs.Bounds.{boundKept}
 use Rattle.board.specs.Boards.{sound, minute}
 use Rattle.board.specs.Replies.{finished}
 use Rattle.board.specs.declared.Board.{Board}
@@ -16,7 +18,7 @@ use Rattle.board.specs.declared.Verdict.the-variants.{Refused, Kept, Bro
 
 -- Y − X ≤ d
 abbrev pub ordinaryKept : Board → Record → Bool
-ordinaryKept b r = leb (minute b (r .b) + gapOf (r .first) .down) (minute b (r .a) + gapOf (r .first) .up)
+ordinaryKept b r = boundKept (minute b (r .a)) (r .first) (minute b (r .b))
 
 -- V − A ≥ min(w, C − A), where l is the link that ends at C
 abbrev pub waitKept : Board → Record → Record → Bool
@@ -34,10 +36,16 @@ unfoldable pub firstBroken : List Record → Board → ℕ → List Record → V
 firstBroken rs b i [] = Kept
 firstBroken rs b i (x ∷ xs) = if kept rs b x then firstBroken rs b (suc i) xs else Broken i
 
--- the plan's own refusal, then 20, then 31 where not all points are done, then the verdict
+-- the plan's own refusal, then 20, then 31 where not all points are done
+unfoldable pub endedOf : Plan → Board → Refusal
+endedOf p b =
+    if not (eqb (checkOf p .number) 0) then checkOf p
+    else if not (sound (recordsOf p) b) then refusal 20 0
+    else if not (finished (recordsOf p) b) then refusal 31 0
+    else accepted
+
+-- that, then the verdict
 unfoldable pub verdictOf : Plan → Board → Verdict
 verdictOf p b =
-    if not (eqb (checkOf p .number) 0) then Refused (checkOf p .number) (checkOf p .place)
-    else if not (sound (recordsOf p) b) then Refused 20 0
-    else if not (finished (recordsOf p) b) then Refused 31 0
+    if not (eqb (endedOf p b .number) 0) then Refused (endedOf p b .number) (endedOf p b .place)
     else firstBroken (recordsOf p) b 0 (recordsOf p)

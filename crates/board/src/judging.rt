@@ -1,5 +1,5 @@
 // The verdict on a finished board: the first record that is not kept, in file order. The judges of one record work on
-// plain numbers, any whatever, so their sums are of 64 bits. The pass over the records assumes a plan that is accepted.
+// plain numbers, any whatever. The pass over the records assumes a plan that is accepted.
 ghost use mathlib.Core.Path.{_≡_};
 ghost use Prim.Native.Nat.{_+_, _-_, min};
 ghost use lib.Dec.{leb};
@@ -14,20 +14,12 @@ use crate::links::End;
 use crate::links::Links;
 use crate::links::used;
 use crate::sound::minute_of;
-use crate::sound::wide;
+use bounds::bound_kept;
 use plan::ORDINARY;
 use plan::Plan;
 use plan::Record;
 use plan::WAIT;
 use plan::split;
-
-// An ordinary record from a point at the minute `from` to one at the minute `to`, whose number adds `up` or takes away
-// `down`, is kept.
-pub(crate) fn ordinary_kept(from: u32, to: u32, up: u32, down: u32) -> bool
-    ensures { λ t. ⌜ t ≡ leb (to + down) (from + up) ⌝ }
-{
-    wide(to) + wide(down) <= wide(from) + wide(up)
-}
 
 // A wait of w for a point at the minute `at`, on a link from `from` to `to`, is kept.
 fn wait_kept(from: u32, to: u32, w: u32, at: u32) -> bool
@@ -47,13 +39,13 @@ fn wait_kept(from: u32, to: u32, w: u32, at: u32) -> bool
 fn is_kept(board: Board, end: End, r: Record) -> bool
     ensures { λ t. ⌜ t ≡ keptFrom board (end .from) r ⌝ }
 {
-    let gap = split(r.first);
     let at = minute_of(board, r.a);
     let to = minute_of(board, r.b);
     if r.kind == ORDINARY {
-        return ordinary_kept(at, to, gap.up, gap.down);
+        return bound_kept(at, r.first, to);
     }
     if r.kind == WAIT {
+        let gap = split(r.first);
         return wait_kept(minute_of(board, end.from), to, gap.up, at);
     }
     true

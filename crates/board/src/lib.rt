@@ -3,7 +3,7 @@
 
 ghost use mathlib.Core.Path.{_≡_};
 ghost use Rattle.board.specs.Boards.{fresh};
-ghost use Rattle.board.specs.Verdicts.{verdictOf};
+ghost use Rattle.board.specs.Verdicts.{endedOf, verdictOf};
 
 mod events;
 mod judging;
@@ -17,10 +17,12 @@ use judging::first_broken;
 use links::links_of;
 use plan::ACCEPTED;
 use plan::Plan;
+use plan::Refusal;
 use plan::check;
 pub use replies::reply_of;
 use sound::all_points;
 use sound::is_sound;
+pub use sound::minute_of;
 
 // The reply numbers 20 to 31.
 pub const UNSOUND: u32 = 20;
@@ -115,19 +117,39 @@ pub fn fresh() -> Board
     }
 }
 
+// The plan's own refusal, then 20, then 31 where not all points are done; number 0 where there is something to judge.
+pub fn ended(plan: Plan, board: Board) -> Refusal
+    ensures { λ r. ⌜ r ≡ endedOf plan board ⌝ }
+{
+    let found = check(plan);
+    if found.number != ACCEPTED {
+        return found;
+    }
+    if !is_sound(plan, board) {
+        return Refusal {
+            number: UNSOUND,
+            place: 0,
+        };
+    }
+    if board.done != all_points(plan) {
+        return Refusal {
+            number: NOT_ALL_DONE,
+            place: 0,
+        };
+    }
+    Refusal {
+        number: ACCEPTED,
+        place: 0,
+    }
+}
+
 // The verdict on a finished board.
 pub fn verdict_of(plan: Plan, board: Board) -> Verdict
     ensures { λ v. ⌜ v ≡ verdictOf plan board ⌝ }
 {
-    let found = check(plan);
+    let found = ended(plan, board);
     if found.number != ACCEPTED {
         return Verdict::Refused(found.number, found.place);
-    }
-    if !is_sound(plan, board) {
-        return Verdict::Refused(UNSOUND, 0);
-    }
-    if board.done != all_points(plan) {
-        return Verdict::Refused(NOT_ALL_DONE, 0);
     }
     let links = links_of(plan);
     first_broken(plan, board, links)

@@ -29,7 +29,7 @@ pub(crate) fn wide(x: u32) -> u64
 }
 
 // The minute of a point; a point past the last place has 0.
-pub(crate) fn minute_of(board: Board, p: u8) -> u32
+pub fn minute_of(board: Board, p: u8) -> u32
     ensures { λ r. ⌜ r ≡ minute board p ⌝ }
 {
     if p < MOST {

@@ -10,13 +10,13 @@ use Rattle.board.specs.Windows.{greatest, least, leastHigh}
 use Rattle.board.specs.Replies.{replyOf, stateOf, outcomeOf}
 use Rattle.board.specs.Events.{takeOf, eventNumber, boardAfter, markAll}
 use Rattle.board.specs.Streams.{boardAfterAll}
-use Rattle.board.specs.Verdicts.{verdictOf, firstBroken}
+use Rattle.board.specs.Verdicts.{endedOf, verdictOf, firstBroken}
 use Rattle.vee.specs.PlanTest.{spans, spread, projections, many}
 use Rattle.vee.specs.TestOf.{arcs, listed, atOnce, passes, firstFrom, judgeOf, testFrom, testOf}
 use Rattle.cases.specs.Starred.{table, Holds, leastWay}
 
 -- The table holds.
 pub starred : Holds table
-unfolding Holds leastWay ones replyOf takeOf eventNumber boardAfter markAll boardAfterAll sound each largest stateOf outcomeOf greatest least leastHigh firstBroken verdictOf member membersOf withOf belowOf subsetOf from every passing howMany some firstThat checkOf firstBad numberFor lastKind testOf testFrom judgeOf firstFrom passes atOnce listed arcs spans spread projections many
+unfolding Holds leastWay ones replyOf takeOf eventNumber boardAfter markAll boardAfterAll sound each largest stateOf outcomeOf greatest least leastHigh firstBroken endedOf verdictOf member membersOf withOf belowOf subsetOf from every passing howMany some firstThat checkOf firstBad numberFor lastKind testOf testFrom judgeOf firstFrom passes atOnce listed arcs spans spread projections many
 starred =
     (refl, (refl, (refl, (refl, (refl, (refl, (refl, (refl, (refl, (refl, (refl, (refl, (refl, (refl, (refl, (refl, (refl, (refl, (refl, (refl, (refl, (refl, (refl, (refl, (refl, tt)))))))))))))))))))))))))

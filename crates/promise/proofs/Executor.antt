@@ -21,7 +21,7 @@ use Rattle.board.specs.Boards.{fresh, sound}
 use Rattle.board.specs.Windows.{someOpen}
 use Rattle.board.specs.Replies.{finished, stuck, outcomeOf, isOffer, offer, bare, replyOf}
 use Rattle.board.specs.Events.{eventSet, eventNumber, boardAfter, taken, takeOf}
-use Rattle.board.specs.Verdicts.{firstBroken, verdictOf}
+use Rattle.board.specs.Verdicts.{firstBroken, endedOf, verdictOf}
 use Rattle.board.specs.declared.Board.{Board}
 use Rattle.board.specs.declared.Outcome.{Outcome}
 use Rattle.board.specs.declared.Outcome.the-variants.{Refused, Finished, Stuck, Waiting, Offers}
@@ -115,7 +115,7 @@ module _ (p : Plan) (ok : checkOf p .number ≡ 0) where
   outcome-is b g = rw (ok, g) (reply-outcome (recordsOf p) b (outcomeOf (recordsOf p) b))
 
   verdict-is : (b : Board) → sound (recordsOf p) b ≡ true → finished (recordsOf p) b ≡ true → verdictOf p b ≡ firstBroken (recordsOf p) b 0 (recordsOf p)
-  unfolding verdictOf
+  unfolding verdictOf endedOf
   verdict-is b g f = rw (ok, g, f)
 
   module _ (passes : PassesPlan p) where

@@ -7,22 +7,22 @@ use borrow.Author.Needs.{sfits-of}
 use Rattle.board.proofs.judging.is_kept.Statement.{statement}
 use Rattle.board.proofs.judging.is_kept.Tie as tie
 
-split-requires : tie.Need-split-requires
-split-requires c κs = search needs
-
 minute-of-requires : tie.Need-minute-of-requires
 minute-of-requires c κs = search needs
 
 minute-of-requires-2 : tie.Need-minute-of-requires-2
 minute-of-requires-2 c κs = search needs
 
-ordinary-kept-requires : tie.Need-ordinary-kept-requires
-ordinary-kept-requires c κs = search needs
+bound-kept-requires : tie.Need-bound-kept-requires
+bound-kept-requires c κs = search needs
 
 returns : tie.Need-returns
 returns c =
-    let g = rw (toZ-ofZ w32 _ (sfits-of (c .before .before .before .before .before .before .struct-told .given .1 .1 .1 .0 .1))) at (c .before .before .before .before .before .split .ensures) in
-    rw (c .ordinary-kept .ensures, c .before .before .before .minute-of2 .ensures, c .before .before .before .before .minute-of .ensures, g, eq-eqb _ _ (c .before .if1 .taken))
+    let g = rw (toZ-ofZ w32 _ (sfits-of (c .before .struct-told .given .1 .1 .1 .0 .1))) at (c .bound-kept .ensures) in
+    rw (g, c .before .before .before .before .minute-of2 .ensures, c .before .before .before .before .before .minute-of .ensures, eq-eqb _ _ (c .before .before .if1 .taken))
+
+split-requires : tie.Need-split-requires
+split-requires c κs = search needs
 
 minute-of-requires-3 : tie.Need-minute-of-requires-3
 minute-of-requires-3 c κs = search needs
@@ -32,8 +32,9 @@ wait-kept-requires c κs = search needs
 
 returns-2 : tie.Need-returns-2
 returns-2 c =
-    let g = rw (toZ-ofZ w32 _ (sfits-of (c .before .before .before .before .before .before .before .before .before .struct-told .given .1 .1 .1 .0 .1))) at (c .before .before .before .before .before .before .before .before .split .ensures) in
-    rw (c .wait-kept .ensures, c .before .minute-of3 .ensures, c .before .before .before .before .before .before .minute-of2 .ensures, c .before .before .before .before .before .before .before .minute-of .ensures, g, ne-eqb _ _ (c .before .before .before .before .if1 .left), eq-eqb _ _ (c .before .before .if2 .taken))
+    let s = c .before .before .before in
+    let g = rw (toZ-ofZ w32 _ (sfits-of (s .struct-told2 .given .1 .1 .1 .0 .1))) at (c .before .before .split .ensures) in
+    rw (c .wait-kept .ensures, c .before .minute-of3 .ensures, s .before .before .before .before .before .minute-of2 .ensures, s .before .before .before .before .before .before .minute-of .ensures, g, ne-eqb _ _ (s .before .before .before .if1 .left), eq-eqb _ _ (s .before .if2 .taken))
 
 returns-3 : tie.Need-returns-3
 returns-3 c = rw (ne-eqb _ _ (c .before .before .if1 .left), ne-eqb _ _ (c .if2 .left))
@@ -42,11 +43,11 @@ pub is-kept-spec : {M : Type 1} → statement M
 is-kept-spec =
     tie.close
     (tie.spec
-    split-requires
     minute-of-requires
     minute-of-requires-2
-    ordinary-kept-requires
+    bound-kept-requires
     returns
+    split-requires
     minute-of-requires-3
     wait-kept-requires
     returns-2

@@ -1,7 +1,12 @@
--- `board::judging::ordinary_kept` meets its contract. Assumes nothing.
+-- `bounds::bound_kept` meets its contract. Assumes nothing.
 use borrow.Author.Needs.{needs}
-use Rattle.board.proofs.judging.ordinary_kept.Statement.{statement}
-use Rattle.board.proofs.judging.ordinary_kept.Tie as tie
+use mir.Syntax.{w32}
+use mir.ValLaws.{toZ-ofZ}
+use Rattle.bounds.proofs.bound_kept.Statement.{statement}
+use Rattle.bounds.proofs.bound_kept.Tie as tie
+
+split-requires : tie.Need-split-requires
+split-requires c κs = search needs
 
 wide-requires : tie.Need-wide-requires
 wide-requires c κs = search needs
@@ -23,12 +28,15 @@ add-result-2 c = search needs
 
 returns : tie.Need-returns
 returns c =
-    rw (c .wide4 .ensures, c .before .wide3 .ensures, c .before .before .wide2 .ensures, c .before .before .before .wide .ensures)
+    let s = c .before .before .before .before in
+    let g = rw (toZ-ofZ w32 _ (s .before .fits .bound)) at (s .split .ensures) in
+    rw (c .wide4 .ensures, c .before .wide3 .ensures, c .before .before .wide2 .ensures, c .before .before .before .wide .ensures, g)
 
-pub ordinary-kept-spec : {M : Type 1} → statement M
-ordinary-kept-spec =
+pub bound-kept-spec : {M : Type 1} → statement M
+bound-kept-spec =
     tie.close
     (tie.spec
+    split-requires
     wide-requires
     wide-requires-2
     add-result

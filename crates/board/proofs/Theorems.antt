@@ -7,3 +7,4 @@ pub mod Low
 pub mod Marks
 pub mod Taking
 pub mod Offered
+pub mod Numbers

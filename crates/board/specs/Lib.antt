@@ -5,5 +5,6 @@ pub mod Replies
 pub mod Events
 pub mod Streams
 pub mod Verdicts
+pub mod Numbers
 pub mod Inside
 pub mod InsideReplies

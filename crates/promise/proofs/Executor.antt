@@ -27,6 +27,7 @@ use Rattle.board.specs.declared.Outcome.{Outcome}
 use Rattle.board.specs.declared.Outcome.the-variants.{Refused, Finished, Stuck, Waiting, Offers}
 use Rattle.board.proofs.Theorems.Each.{clash, differ}
 use Rattle.board.proofs.Theorems.Soundness.{HeldBoard, sound-means, fresh-sound}
+use Rattle.board.proofs.Theorems.Numbers.{reply-number}
 use Rattle.board.proofs.Theorems.Taking.{takes, event-sound, event-marks, event-more}
 use Rattle.network.proofs.Plans.{Safe}
 use Rattle.network.proofs.Safety.{safe-fresh, safe-event}
@@ -59,16 +60,6 @@ reply-outcome rs b Waiting = refl
 reply-outcome rs b Offers = refl
 
 module _ (rs : List Record) (b : Board) where
-  no-refusal : (n i : ℕ) → outcomeOf rs b ≡ Refused n i → ⊥
-  unfolding outcomeOf
-  no-refusal n i e = go (finished rs b) (stuck rs b) (someOpen rs b) e
-    where
-      go : (f s o : Bool) → (if f then Finished else if s then Stuck else if not o then Waiting else Offers) ≡ Refused n i → ⊥
-      go true s o e = differ cc
-      go false true o e = differ cc
-      go false false true e = differ cc
-      go false false false e = differ cc
-
   no-stuck : (finished rs b ≡ false → stuck rs b ≡ false) → outcomeOf rs b ≡ Stuck → ⊥
   unfolding outcomeOf
   no-stuck h e = go (finished rs b) (stuck rs b) (someOpen rs b) h e
@@ -155,7 +146,7 @@ module _ (p : Plan) (ok : checkOf p .number ≡ 0) where
         let few = done-few rs b (w .held) m in
         record {
           sound = w .good;
-          answered = λ n i e. no-refusal rs b n i (sym (outcome-is b (w .good)) ∙ e);
+          answered = reply-number p b ∙ rw (ok, w .good);
           free = λ e. no-stuck rs b (not-stuck rs known passes b (w .held) m (w .safe)) (sym (outcome-is b (w .good)) ∙ e);
           done = w .done;
           events = omega (arith, w .done, few);

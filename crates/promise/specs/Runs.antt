@@ -12,8 +12,9 @@ use Rattle.board.specs.Boards.{fresh, sound, minute}
 use Rattle.board.specs.Replies.{finished, replyOf}
 use Rattle.board.specs.Events.{takeOf}
 use Rattle.board.specs.Verdicts.{verdictOf}
+use Rattle.board.specs.Numbers.{outcomeNumber}
 use Rattle.board.specs.declared.Board.{Board}
-use Rattle.board.specs.declared.Outcome.the-variants.{Refused, Stuck}
+use Rattle.board.specs.declared.Outcome.the-variants.{Stuck}
 use Rattle.board.specs.declared.Verdict.the-variants.{Kept}
 
 -- the board b is reached from the fresh one by k accepted events of the plan p, each any list of bytes; a refused event
@@ -26,7 +27,7 @@ pub data Run (p : Plan) : Board → ℕ → Type 0 where
 pub record Promised (p : Plan) (b : Board) (k : ℕ) : Type 0 where
   pub sound : sound (recordsOf p) b ≡ true
   -- the reply is no refusal, and not stuck
-  pub answered : (n i : ℕ) → replyOf p b .outcome ≡ Refused n i → ⊥
+  pub answered : outcomeNumber (replyOf p b .outcome) ≡ 0
   pub free : replyOf p b .outcome ≡ Stuck → ⊥
   -- each event has finished at least one point, so there are at most as many events as points
   pub done : k ≤ countOf (b .done)

@@ -1,17 +1,18 @@
 -- The test has at most one answer to a plan. Assumes nothing.
-use mathlib.Core.Path.{_≡_, refl, ap}
+use mathlib.Core.Path.{_≡_, refl, ap, _∙_}
 use mathlib.Core.Logic.{_⊎_, inl, inr}
 use mathlib.Core.List.{List, [], _∷_}
 use Prim.Native.Nat.{ℕ, _+_, _<_, _≤_}
 use native.Mathlib.Omega.{arith}
 use native.Mathlib.Decide.{decLt}
+use borrow.Author.Tests.{ne-eqb, lt-ltb, le-ltb}
 use Rattle.network.specs.Passing.{Cycle, Consistent, Good}
 use Rattle.network.proofs.Laws.{not-both, not-fine}
 use Rattle.plan.specs.declared.Plan.{Plan}
 use Rattle.vee.specs.declared.Answer.{Answer}
 use Rattle.vee.specs.declared.Answer.the-variants as answer
 use Rattle.vee.specs.Judging.{Before, FirstBad}
-use Rattle.vee.specs.PlanTest.{Found, all-good, good, cycle, pair, Tested, refused, too-many, tested}
+use Rattle.vee.specs.PlanTest.{Found, all-good, good, cycle, pair, Tested, refused, too-many, tested, answerNumber, testNumber}
 
 module _ (E : ℕ → ℕ → ℕ → ℕ → Type 0) where
   not-good : {X Y : ℕ} → Good E → FirstBad E X Y → ⊥
@@ -62,3 +63,16 @@ one-answer (too-many e m) (tested e′ m′ f) = absurd (omega arith)
 one-answer (tested e m f) (refused h) = absurd (h e)
 one-answer (tested e m f) (too-many e′ m′) = absurd (omega arith)
 one-answer (tested e m f) (tested e′ m′ f′) = one-found f f′
+
+-- what is found is no refusal
+found-number : {E : List ℕ → ℕ → ℕ → ℕ → ℕ → Type 0} {i : ℕ} {ws : List (List ℕ)} {r : Answer} → Found E i ws r → answerNumber r ≡ 0
+found-number all-good = refl
+found-number (good g f) = found-number f
+found-number (cycle c) = refl
+found-number (pair b) = refl
+
+-- The number of the answer is the plan's own, or 13, or 0.
+pub test-number : {p : Plan} {r : Answer} → Tested p r → answerNumber r ≡ testNumber p
+test-number (refused h) = rw (ne-eqb _ _ h)
+test-number (too-many e m) = rw (e, lt-ltb _ _ m)
+test-number (tested e m f) = found-number f ∙ rw (e, le-ltb _ _ m)

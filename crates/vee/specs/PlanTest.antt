@@ -2,9 +2,10 @@
 -- order, and what an answer of the test means. Assumes nothing.
 use mathlib.Core.Path.{_≡_}
 use mathlib.Core.Logic.{_≢_}
-use mathlib.Core.Bool.{true, false}
+use mathlib.Core.Bool.{true, false, not}
 use mathlib.Core.List.{List, [], _∷_, _++_}
 use Prim.Native.Nat.{ℕ, zero, suc, _+_, _-_, _*_, _<_, _≤_}
+use lib.Dec.{eqb, ltb}
 use lib.IntN.{pos}
 use lib.ListN.{length, getD, set, replicate}
 use Rattle.plan.specs.Choice.{if_then_else_}
@@ -112,3 +113,24 @@ pub data Tested (p : Plan) : Answer → Type 0 where
   too-many : checkOf p .number ≡ 0 → mostProjections < many (spans (recordsOf p)) → Tested p (answer.Refused 13 0)
   tested : {r : Answer} → checkOf p .number ≡ 0 → many (spans (recordsOf p)) ≤ mostProjections
       → Found (edgesOf (recordsOf p)) 0 (projections (spans (recordsOf p)) unset) r → Tested p r
+
+-- document 01's number of an answer, 0 where nothing is refused, and the values that each case carries: a refusal's record,
+-- how many projections were tried, and the number of the first that fails with its pair
+abbrev pub answerNumber : Answer → ℕ
+answerNumber (answer.Refused n i) = n
+answerNumber (answer.Yes k) = 0
+answerNumber (answer.Cycle i) = 0
+answerNumber (answer.Pair i X Y) = 0
+
+abbrev pub answerValues : Answer → List ℕ
+answerValues (answer.Refused n i) = i ∷ []
+answerValues (answer.Yes k) = k ∷ []
+answerValues (answer.Cycle i) = i ∷ []
+answerValues (answer.Pair i X Y) = i ∷ X ∷ Y ∷ []
+
+-- the number that the test gives: the plan's own, or 13
+abbrev pub testNumber : Plan → ℕ
+testNumber p =
+    if not (eqb (checkOf p .number) 0) then checkOf p .number
+    else if ltb mostProjections (many (spans (recordsOf p))) then 13
+    else 0

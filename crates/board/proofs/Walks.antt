@@ -3,15 +3,18 @@
 use mathlib.Core.Path.{_≡_, refl}
 use mathlib.Core.Bool.{Bool, true, false}
 use mathlib.Core.List.{List, [], _∷_, _++_}
-use Prim.Native.Nat.{ℕ, suc, _+_, _-_, _≤_, _<_, max}
+use Prim.Native.Nat.{ℕ, suc, _+_, _-_, _≤_, _<_, min, max}
 use native.Mathlib.Omega.{arith}
 use native.Mathlib.Numerals.{add-one}
 use lib.ListN.{length, drop, getD, set, drop-of-length-le}
 use lib.Seq.{drop-cons, set-out}
 use Rattle.points.specs.Sets.{membersOf, withOf, from, every}
 use Rattle.points.proofs.Laws.{Turn, members-empty, with-past}
-use Rattle.plan.specs.APlan.{blank}
+use Rattle.plan.specs.Limits.{mostRecords}
+use Rattle.plan.specs.APlan.{blank, recordsOf}
+use Rattle.plan.proofs.Records.{next-record, last-record}
 use Rattle.plan.specs.declared.Record.{Record}
+use Rattle.plan.specs.declared.Plan.{Plan}
 use Rattle.board.specs.Boards.{minute, each, largest}
 use Rattle.board.specs.Events.{markAll}
 use Rattle.board.specs.declared.Board.{Board}
@@ -36,19 +39,33 @@ module _ (test : ℕ → Bool) (n i : ℕ) where
   unfolding every from
   points-end h = let z : n - i ≡ 0 = omega arith in rw z
 
--- the records from place i on
-module _ (so : Record → Bool) (rs : List Record) (i : ℕ) where
-  pub records-fails : i < length rs → so (getD rs i blank) ≡ false → false ≡ each so (drop i rs)
-  unfolding each
-  records-fails h e = rw (drop-cons rs i blank h, e)
+-- a loop that asks of each of the n records of a plan whether it is so: from place i on they give the answer
+pub record Left (so : Record → Bool) (p : Plan) (n i : ℕ) : Type 0 where
+  pub within : i ≤ n
+  pub all : n ≡ min (p .count) mostRecords
+  pub room : length (p .records) ≡ mostRecords
+  pub same : each so (drop i (recordsOf p)) ≡ each so (recordsOf p)
 
-  pub records-turn : i < length rs → so (getD rs i blank) ≡ true → each so (drop i rs) ≡ each so (drop (i + 1) rs)
-  unfolding each
-  records-turn h e = rw (drop-cons rs i blank h, e, add-one i)
+module _ (so : Record → Bool) (p : Plan) (n : ℕ) where
+  pub left-start : n ≡ min (p .count) mostRecords → length (p .records) ≡ mostRecords → Left so p n 0
+  left-start all room = record { within = omega arith; all = all; room = room; same = refl }
 
-  pub records-end : length rs ≤ i → true ≡ each so (drop i rs)
-  unfolding each
-  records-end h = rw (drop-of-length-le rs h)
+  module _ (i : ℕ) (w : Left so p n i) where
+    pub left-fails : i < n → so (getD (p .records) i blank) ≡ false → false ≡ each so (recordsOf p)
+    unfolding each
+    left-fails h e =
+        let r = next-record p (w .room) n (w .all) i h in
+        rw (drop-cons (recordsOf p) i blank (r .0), r .1, e) at (w .same)
+
+    pub left-turn : i < n → so (getD (p .records) i blank) ≡ true → Left so p n (i + 1)
+    unfolding each
+    left-turn h e =
+        let r = next-record p (w .room) n (w .all) i h in
+        record { within = omega arith; all = w .all; room = w .room; same = rw (add-one i) (rw (drop-cons (recordsOf p) i blank (r .0), r .1, e) at (w .same)) }
+
+    pub left-end : n ≤ i → true ≡ each so (recordsOf p)
+    unfolding each
+    left-end h = rw (drop-of-length-le (recordsOf p) (last-record p (w .room) n (w .all) i h)) at (w .same)
 
 -- the members of a set
 module _ (test : ℕ → Bool) (s p rest : ℕ) (t : Turn s p rest) where

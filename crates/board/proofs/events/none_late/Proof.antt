@@ -1,22 +1,16 @@
 -- `board::events::none_late` meets its contract. Assumes nothing.
 use borrow.Author.Needs.{needs}
-use native.Mathlib.Omega.{arith}
-use mathlib.Core.Path.{_≡_, refl, sym, _∙_}
+use mathlib.Core.Path.{sym, _∙_}
 use borrow.Author.Tests.{not-true, not-false}
-use Prim.Native.Nat.{_≤_, _-_, min}
-use lib.ListN.{length, drop, length-map}
-use Rattle.plan.specs.Limits.{mostRecords}
-use Rattle.plan.specs.APlan.{recordsOf}
-use Rattle.board.specs.Boards.{each}
+use Prim.Native.Nat.{_-_}
+use lib.ListN.{length-map}
+use Rattle.board.proofs.Walks.{Left, left-start, left-fails, left-turn, left-end}
 use Rattle.board.specs.Events.{notLate}
-use Rattle.plan.proofs.Records.{next-record, last-record}
-use Rattle.board.proofs.Walks.{records-fails, records-turn, records-end}
 use Rattle.board.proofs.events.none_late.Statement.{statement}
 use Rattle.board.proofs.events.none_late.Tie as tie
 
 abbrev Inv-loop : tie.InvT-loop
-Inv-loop board t set plan n i₀ i =
-    (i ≤ n) × (n ≡ min (plan .count) mostRecords) × (length (plan .records) ≡ mostRecords) × (each (notLate board t set) (drop i (recordsOf plan)) ≡ each (notLate board t set) (recordsOf plan))
+Inv-loop board t set plan n i₀ i = Left (notLate board t set) plan n i
 
 abbrev μ-loop : tie.MeasureT-loop
 μ-loop board t set plan n i₀ i = n - i
@@ -25,7 +19,7 @@ used-requires : tie.Need-used-requires Inv-loop μ-loop
 used-requires c κs = search needs
 
 loop-holds : tie.Need-loop-holds Inv-loop μ-loop
-loop-holds c = (omega arith, c .used .ensures, rw length-map at (c .before .good .0 .1 .1 .1 .0 .1 .0 .1), refl)
+loop-holds c = left-start _ (c .before .args .t1) _ (c .used .ensures) (rw length-map at (c .before .good .0 .1 .1 .1 .0 .1 .0 .1))
 
 mul-r : tie.Need-mul-r Inv-loop μ-loop
 mul-r c = search needs
@@ -38,12 +32,8 @@ not-late-requires c κs = search needs
 
 returns : tie.Need-returns Inv-loop μ-loop
 returns c =
-    let a = c .before .before .before .before .before .before .args in
-    let i = c .before .before .before .before .loop .inv in
-    let k = c .before .before .before .before .loop .i in
-    let w = next-record (a .t1) (i .2) _ (i .1) k (c .before .before .before .loop-test .taken) in
-    let f = sym (c .before .not-late .ensures) ∙ not-true _ (c .if1 .taken) in
-    records-fails (notLate (a .board) (a .t) (a .set)) (recordsOf (a .t1)) k (w .0) (rw (w .1) f) ∙ i .3
+    let l = c .before .before .before .before .loop in
+    left-fails _ _ _ (l .i) (l .inv) (c .before .before .before .loop-test .taken) (sym (c .before .not-late .ensures) ∙ not-true _ (c .if1 .taken))
 
 add-i : tie.Need-add-i Inv-loop μ-loop
 add-i c = search needs
@@ -53,18 +43,11 @@ loop-less c = search needs
 
 loop-again : tie.Need-loop-again Inv-loop μ-loop
 loop-again c =
-    let a = c .before .before .before .before .before .before .args in
-    let i = c .before .before .before .before .loop .inv in
-    let k = c .before .before .before .before .loop .i in
-    let w = next-record (a .t1) (i .2) _ (i .1) k (c .before .before .before .loop-test .taken) in
-    let f = sym (c .before .not-late .ensures) ∙ not-false _ (c .if1 .left) in
-    (omega arith, i .1, i .2, sym (records-turn (notLate (a .board) (a .t) (a .set)) (recordsOf (a .t1)) k (w .0) (rw (w .1) f)) ∙ i .3)
+    let l = c .before .before .before .before .loop in
+    left-turn _ _ _ (l .i) (l .inv) (c .before .before .before .loop-test .taken) (sym (c .before .not-late .ensures) ∙ not-false _ (c .if1 .left))
 
 returns-2 : tie.Need-returns-2 Inv-loop μ-loop
-returns-2 c =
-    let a = c .before .before .before .args in
-    let i = c .before .loop .inv in
-    records-end (notLate (a .board) (a .t) (a .set)) (recordsOf (a .t1)) (c .before .loop .i) (last-record (a .t1) (i .2) _ (i .1) _ (c .loop-test .left)) ∙ i .3
+returns-2 c = left-end _ _ _ _ (c .before .loop .inv) (c .loop-test .left)
 
 pub none-late-spec : {M : Type 1} → statement M
 none-late-spec =

@@ -1,9 +1,11 @@
 -- `board::events::take_next` meets its contract. Assumes nothing.
 use native.Mathlib.Omega.{arith}
 use borrow.Author.Needs.{needs}
-use mathlib.Core.Path.{_∙_}
+use mathlib.Core.Path.{ap, _∙_}
+use Prim.Native.Nat.{ℕ}
 use lib.ListN.{length-map}
 use Rattle.plan.specs.APlan.{recordsOf}
+use Rattle.board.specs.Events.{taken}
 use Rattle.board.proofs.Taking.{taken-formed, formed-length, next-refused, next-taken}
 use Rattle.board.proofs.Theorems.Soundness.{HeldBoard}
 use Rattle.board.proofs.Streaming.{next-sound}
@@ -20,7 +22,8 @@ returns : tie.Need-returns
 returns c =
     let a = c .before .before .before .before .args in
     let n = rw (c .before .before .event-number .ensures) at (c .before .if1 .taken) in
-    (rw (c .answer .ensures, c .before .before .event-number .ensures) (next-refused (recordsOf (a .plan)) (a .board) (a .event .now) n), rw (c .answer .ensures) (c .before .before .before .before .pre .sound))
+    let e = c .answer .ensures ∙ ap (λ (k : ℕ). taken k 0 (a .board)) (c .before .before .event-number .ensures) ∙ next-refused (recordsOf (a .plan)) (a .board) (a .event .now) n in
+    (e, rw (c .answer .ensures) (c .before .before .before .before .pre .sound))
 
 event-in-requires : tie.Need-event-in-requires
 event-in-requires c κs =

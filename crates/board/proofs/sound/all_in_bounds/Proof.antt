@@ -1,21 +1,16 @@
 -- `board::sound::all_in_bounds` meets its contract. Assumes nothing.
 use borrow.Author.Needs.{needs}
-use native.Mathlib.Omega.{arith}
-use mathlib.Core.Path.{_≡_, refl, sym, _∙_}
+use mathlib.Core.Path.{sym, _∙_}
 use borrow.Author.Tests.{not-true, not-false}
-use Prim.Native.Nat.{_≤_, _-_, min}
-use lib.ListN.{length, drop, length-map}
-use Rattle.plan.specs.Limits.{mostRecords}
-use Rattle.plan.specs.APlan.{recordsOf}
-use Rattle.board.specs.Boards.{inBounds, each}
-use Rattle.plan.proofs.Records.{next-record, last-record}
-use Rattle.board.proofs.Walks.{records-fails, records-turn, records-end}
+use Prim.Native.Nat.{_-_}
+use lib.ListN.{length-map}
+use Rattle.board.proofs.Walks.{Left, left-start, left-fails, left-turn, left-end}
+use Rattle.board.specs.Boards.{inBounds}
 use Rattle.board.proofs.sound.all_in_bounds.Statement.{statement}
 use Rattle.board.proofs.sound.all_in_bounds.Tie as tie
 
 abbrev Inv-loop : tie.InvT-loop
-Inv-loop board plan n i₀ i =
-    (i ≤ n) × (n ≡ min (plan .count) mostRecords) × (length (plan .records) ≡ mostRecords) × (each (inBounds board) (drop i (recordsOf plan)) ≡ each (inBounds board) (recordsOf plan))
+Inv-loop board plan n i₀ i = Left (inBounds board) plan n i
 
 abbrev μ-loop : tie.MeasureT-loop
 μ-loop board plan n i₀ i = n - i
@@ -24,9 +19,7 @@ used-requires : tie.Need-used-requires Inv-loop μ-loop
 used-requires c κs = search needs
 
 loop-holds : tie.Need-loop-holds Inv-loop μ-loop
-loop-holds c =
-    let g = c .before .good in
-    (omega arith, c .used .ensures, rw length-map at (g .0 .1 .1 .1 .0 .1 .0 .1), refl)
+loop-holds c = left-start _ (c .before .args .t1) _ (c .used .ensures) (rw length-map at (c .before .good .0 .1 .1 .1 .0 .1 .0 .1))
 
 mul-r : tie.Need-mul-r Inv-loop μ-loop
 mul-r c = search needs
@@ -39,12 +32,8 @@ in-bounds-requires c κs = search needs
 
 returns : tie.Need-returns Inv-loop μ-loop
 returns c =
-    let a = c .before .before .before .before .before .before .args in
-    let i = c .before .before .before .before .loop .inv in
-    let k = c .before .before .before .before .loop .i in
-    let w = next-record (a .t1) (i .2) _ (i .1) k (c .before .before .before .loop-test .taken) in
-    let f = sym (c .before .in-bounds .ensures) ∙ not-true _ (c .if1 .taken) in
-    records-fails (inBounds (a .board)) (recordsOf (a .t1)) k (w .0) (rw (w .1) f) ∙ i .3
+    let l = c .before .before .before .before .loop in
+    left-fails _ _ _ (l .i) (l .inv) (c .before .before .before .loop-test .taken) (sym (c .before .in-bounds .ensures) ∙ not-true _ (c .if1 .taken))
 
 add-i : tie.Need-add-i Inv-loop μ-loop
 add-i c = search needs
@@ -54,18 +43,11 @@ loop-less c = search needs
 
 loop-again : tie.Need-loop-again Inv-loop μ-loop
 loop-again c =
-    let a = c .before .before .before .before .before .before .args in
-    let i = c .before .before .before .before .loop .inv in
-    let k = c .before .before .before .before .loop .i in
-    let w = next-record (a .t1) (i .2) _ (i .1) k (c .before .before .before .loop-test .taken) in
-    let f = sym (c .before .in-bounds .ensures) ∙ not-false _ (c .if1 .left) in
-    (omega arith, i .1, i .2, sym (records-turn (inBounds (a .board)) (recordsOf (a .t1)) k (w .0) (rw (w .1) f)) ∙ i .3)
+    let l = c .before .before .before .before .loop in
+    left-turn _ _ _ (l .i) (l .inv) (c .before .before .before .loop-test .taken) (sym (c .before .in-bounds .ensures) ∙ not-false _ (c .if1 .left))
 
 returns-2 : tie.Need-returns-2 Inv-loop μ-loop
-returns-2 c =
-    let a = c .before .before .before .args in
-    let i = c .before .loop .inv in
-    records-end (inBounds (a .board)) (recordsOf (a .t1)) (c .before .loop .i) (last-record (a .t1) (i .2) _ (i .1) _ (c .loop-test .left)) ∙ i .3
+returns-2 c = left-end _ _ _ _ (c .before .loop .inv) (c .loop-test .left)
 
 pub all-in-bounds-spec : {M : Type 1} → statement M
 all-in-bounds-spec =

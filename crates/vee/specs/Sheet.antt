@@ -8,6 +8,7 @@ use lib.ListN.{length, getD}
 use Rattle.network.specs.Walks.{Walk}
 use Rattle.plan.specs.Limits.{farthest, mostRecords}
 use Rattle.vee.specs.declared.table.Part.{Part}
+use Rattle.vee.specs.declared.sheet.Row.{Row}
 use Rattle.vee.specs.Tables.{side, room, at}
 use Rattle.vee.specs.Distances.{Drawn}
 use Rattle.vee.specs.Steps.{takesOf}
@@ -40,6 +41,10 @@ secondAt s q = field s q 4
 
 abbrev pub overAt : List ℕ → ℕ → ℕ
 overAt s q = field s q 5
+
+-- row q of a sheet
+abbrev pub rowAt : List ℕ → ℕ → Row
+rowAt s q = record { kind = kindAt s q; from = fromAt s q; to = toAt s q; first = firstAt s q; second = secondAt s q; over = overAt s q }
 
 -- the durations, by the links' C
 abbrev pub by : List ℕ → ℕ → ℕ

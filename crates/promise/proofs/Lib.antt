@@ -11,5 +11,5 @@ pub mod Making
 pub mod Players
 pub mod Play
 pub mod Lasting
-pub mod Haul
 pub mod TestYes
+pub mod Haul

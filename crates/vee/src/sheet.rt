@@ -75,7 +75,7 @@ fn put(
 }
 
 // Row `q` of the sheet.
-fn row_at(sheet: &[u64; SHEET], q: usize) -> Row
+pub(crate) fn row_at(sheet: &[u64; SHEET], q: usize) -> Row
     requires { ⌜ q < mostRecords ⌝ }
     ensures { λ r. ⌜ r ≡ rowAt (now (sheet .entry)) q ⌝ }
 {

@@ -1,7 +1,7 @@
 -- Worked cases 1 to 3 of document 01, "Haul to one pond", and the second half of case 10, computed on the rules. Assumes
 -- nothing.
 use mathlib.Core.Path.{_≡_, refl}
-use mathlib.Core.List.{List, [], _∷_}
+use mathlib.Core.List.{[], _∷_}
 use Rattle.plan.specs.APlan.{planOf, howMany, some, firstThat}
 use Rattle.plan.specs.ReplyNumbers.{checkOf, firstBad, numberFor, lastKind}
 use Rattle.plan.specs.Haul.{haul, haulWith, aWait, circle}

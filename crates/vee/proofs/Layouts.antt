@@ -1,12 +1,12 @@
 -- A plan laid out on a sheet, record by record. Assumes nothing.
-use mathlib.Core.Path.{_≡_, refl, sym, subst, ap, _∙_}
+use mathlib.Core.Path.{_≡_, refl, sym, _∙_}
 use mathlib.Core.Logic.{_≢_}
 use mathlib.Core.Bool.{Bool, true, false}
 use mathlib.Core.List.{List, [], _∷_}
-use Prim.Native.Nat.{ℕ, zero, suc, _+_, _-_, _*_, _<_, _≤_}
+use Prim.Native.Nat.{ℕ, suc, _+_, _-_, _*_, _<_, _≤_}
 use native.Mathlib.Omega.{arith}
 use native.Mathlib.Decide.{ℕ-discrete}
-use lib.ListN.{length, getD, set, take, length-set, length-take}
+use lib.ListN.{length, getD, set, length-set, length-take}
 use lib.Seq.{getD-set-same, getD-set-other, getD-take}
 use Rattle.plan.specs.Choice.{if_then_else_}
 use Rattle.plan.specs.Limits.{mostRecords}
@@ -132,7 +132,7 @@ turn {rs} {q} {s} {s′} l w = record { long = w .long; rows = rows }
     ]
 
 pub ended : {rs : List Record} {q : ℕ} {s : List ℕ} → length rs ≤ q → Laying rs q s → LaidOut rs s
-ended h l = record { long = l .long; rows = λ q k. l .rows q (omega arith) }
+ended h l = record { rows = λ q k. l .rows q (omega arith) }
 
 -- the A of the link at the place that was found
 module _ (p : Plan) (so : Record → Bool) (few : p .count ≤ mostRecords) (long : length (p .records) ≡ mostRecords) where

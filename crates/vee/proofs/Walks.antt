@@ -1,13 +1,12 @@
 -- The walk over the durations of a link, all that follows it walked for each. Assumes nothing.
-use mathlib.Core.Path.{_≡_, refl, sym, subst, ap, _∙_}
-use mathlib.Core.Bool.{true, false}
-use mathlib.Core.List.{List, [], _∷_, _++_, append-assoc}
+use mathlib.Core.Path.{_≡_, refl, subst, _∙_}
+use mathlib.Core.List.{List, [], _∷_, _++_}
 use Prim.Native.Nat.{ℕ, zero, suc, _+_, _-_, _*_, _<_, _≤_}
 use native.Mathlib.Omega.{arith}
-use native.Mathlib.Nat.{suc-mul, add-zero}
+use native.Mathlib.Nat.{suc-mul}
 use native.Mathlib.Numerals.{add-one}
 use native.Mathlib.Decide.{ℕ-discrete}
-use lib.ListN.{length, getD, set, length-set, length-append}
+use lib.ListN.{length, set, length-set, length-append}
 use lib.Seq.{getD-set-same, getD-set-other}
 use Rattle.plan.specs.Limits.{farthest}
 use Rattle.vee.specs.declared.Answer.{Answer}
@@ -128,7 +127,6 @@ module _ {s w : List ℕ} {m n past k i : ℕ} where
     chosen =
         let r = t .ready .ready in
         record {
-          long = r .long;
           wide = length-set w (overAt s (past - k)) p ∙ r .wide;
           rows = r .rows;
           few = r .few;

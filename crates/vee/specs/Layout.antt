@@ -1,6 +1,5 @@
 -- The sheet of a plan: the row of each record. A reader of the rules can leave this page out. Assumes nothing.
 use mathlib.Core.Path.{_≡_}
-use mathlib.Core.Bool.{true, false}
 use mathlib.Core.List.{List}
 use Prim.Native.Nat.{ℕ, _+_, _*_, _<_}
 use lib.ListN.{length, getD, set}
@@ -8,7 +7,7 @@ use Rattle.plan.specs.Choice.{if_then_else_}
 use Rattle.plan.specs.APlan.{link, wait, is, blank, gapOf, linkTo}
 use Rattle.plan.specs.declared.Record.{Record}
 use Rattle.vee.specs.declared.sheet.Row.{Row}
-use Rattle.vee.specs.Sheet.{kindAt, fromAt, toAt, firstAt, secondAt, overAt, width, sheetRoom}
+use Rattle.vee.specs.Sheet.{kindAt, fromAt, toAt, firstAt, secondAt, overAt, width}
 
 abbrev pub rowOf : List Record → Record → Row
 rowOf rs r =
@@ -43,5 +42,4 @@ stored s q x =
 
 -- each record has its row
 pub record LaidOut (rs : List Record) (s : List ℕ) : Type 0 where
-  pub long : length s ≡ sheetRoom
   pub rows : (q : ℕ) → q < length rs → RowIs s q (rowOf rs (getD rs q blank))

@@ -1,11 +1,10 @@
 -- The sheet: the records of a plan laid out as six numbers each, so that they can be lent to the test, and the edges that
 -- the rows of a sheet stand for. A reader of the rules can leave this page out. Assumes nothing.
 use mathlib.Core.Path.{_≡_}
-use mathlib.Core.Bool.{Bool, true, false}
+use mathlib.Core.Bool.{true}
 use mathlib.Core.List.{List}
 use Prim.Native.Nat.{ℕ, min, _+_, _*_, _<_, _≤_}
 use lib.ListN.{length, getD}
-use Rattle.network.specs.Walks.{Walk}
 use Rattle.plan.specs.Limits.{farthest, mostRecords}
 use Rattle.vee.specs.declared.table.Part.{Part}
 use Rattle.vee.specs.declared.sheet.Row.{Row}
@@ -70,7 +69,6 @@ pub record PartOf (b : Part) (E : ℕ → ℕ → ℕ → ℕ → Type 0) (X Y u
 
 -- a sheet of m records on n points, and durations: what is joined is there, and no number is too far from 0
 pub record SheetReady (s w : List ℕ) (m n : ℕ) : Type 0 where
-  pub long : length s ≡ sheetRoom
   pub wide : length w ≡ side
   pub rows : m ≤ mostRecords
   pub few : n ≤ side

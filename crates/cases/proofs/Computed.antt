@@ -19,4 +19,4 @@ use Rattle.cases.specs.Starred.{table, Holds, leastWay}
 pub starred : Holds table
 unfolding Holds leastWay ones replyOf takeOf eventNumber boardAfter markAll boardAfterAll sound each largest stateOf outcomeOf greatest least leastHigh firstBroken endedOf verdictOf member membersOf withOf belowOf subsetOf from every passing howMany some firstThat checkOf firstBad numberFor lastKind testOf testFrom judgeOf firstFrom passes atOnce listed arcs spans spread projections many
 starred =
-    (refl, (refl, (refl, (refl, (refl, (refl, (refl, (refl, (refl, (refl, (refl, (refl, (refl, (refl, (refl, (refl, (refl, (refl, (refl, (refl, (refl, (refl, (refl, (refl, (refl, tt)))))))))))))))))))))))))
+    (refl, (refl, (refl, (refl, (refl, (refl, (refl, (refl, (refl, (refl, (refl, (refl, (refl, (refl, (refl, (refl, (refl, (refl, (refl, (refl, (refl, (refl, (refl, (refl, (refl, (refl, tt))))))))))))))))))))))))))

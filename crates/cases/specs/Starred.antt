@@ -2,8 +2,10 @@
 -- Assumes nothing.
 use mathlib.Core.Path.{_≡_}
 use mathlib.Core.List.{List, [], _∷_, _++_}
-use Prim.Native.Nat.{ℕ, zero, suc, _+_, _-_, min}
+use Prim.Native.Nat.{ℕ, zero, suc, _-_}
+use lib.Dec.{ltb}
 use lib.ListN.{getD, length, replicate}
+use Rattle.plan.specs.Choice.{if_then_else_}
 use Rattle.plan.specs.Limits.{mostPoints}
 use Rattle.plan.specs.APlan.{planOf, points, recordsOf}
 use Rattle.plan.specs.Haul.{haul, haulWith, aWait, circle}
@@ -23,7 +25,7 @@ use Rattle.board.specs.declared.Verdict.{Verdict}
 use Rattle.board.specs.declared.Verdict.the-variants.{Kept}
 use Rattle.vee.specs.Tables.{bias, none}
 use Rattle.vee.specs.PlanTest.{spans, projections, unset}
-use Rattle.vee.specs.TestOf.{Arc, Rows, arcs, entry, distances, falling, rising, testOf}
+use Rattle.vee.specs.TestOf.{Arc, Rows, arcs, entry, better, distances, falling, rising, testOf}
 use Rattle.vee.specs.declared.Answer.{Answer}
 use Rattle.vee.specs.declared.Answer.the-variants.{Yes, Pair, Cycle}
 
@@ -42,6 +44,7 @@ pub data Asked : Type 0 where
 pub data Said : Type 0 where
   answer : Answer → Said
   below : ℕ → Said
+  nowhere : Said
   replied : Reply → Said
   number : ℕ → Said
   judged : Verdict → Said
@@ -53,14 +56,18 @@ edges p i = let rs = recordsOf p in arcs rs (getD (projections (spans rs) unset)
 -- the least of the ways down to a point below k and then up
 unfoldable pub leastWay : Rows → Rows → ℕ → ℕ → ℕ → ℕ
 leastWay g r X Y zero = none
-leastWay g r X Y (suc M) = min (entry g X M + entry r M Y - bias) (leastWay g r X Y M)
+leastWay g r X Y (suc M) = better (leastWay g r X Y M) (entry g X M) (entry r M Y)
+
+-- how far below zero a distance is, if there is one
+abbrev pub belowZero : ℕ → Said
+belowZero v = if ltb v none then below (bias - v) else nowhere
 
 abbrev pub saidTo : Asked → Said
 saidTo (test p) = answer (testOf p)
-saidTo (shortest p i X Y) = below (bias - entry (distances (points (recordsOf p)) (edges p i)) X Y)
+saidTo (shortest p i X Y) = belowZero (entry (distances (points (recordsOf p)) (edges p i)) X Y)
 saidTo (allowed p i X Y) =
     let n = points (recordsOf p) in
-    below (bias - leastWay (falling n (edges p i)) (rising n (edges p i)) X Y n)
+    belowZero (leastWay (falling n (edges p i)) (rising n (edges p i)) X Y n)
 saidTo (reply p es) = replied (replyOf p (boardAfterAll p fresh es))
 saidTo (event p es e) = number (takeOf p (boardAfterAll p fresh es) e .number)
 saidTo (verdict p es) = judged (verdictOf p (boardAfterAll p fresh es))
@@ -110,6 +117,7 @@ table =
     -- 2. without the wait: projection 0, pair (3, 0); shortest −15, not by such a path
     ∷ (test (planOf (haulWith [])) gives answer (Pair 0 3 0))
     ∷ (shortest (planOf (haulWith [])) 0 3 0 gives below 15)
+    ∷ (allowed (planOf (haulWith [])) 0 3 0 gives nowhere)
     -- 3. with wait 34: projection 30, pair (3, 0); shortest −45, best allowed −44
     ∷ (test (planOf (haulWith (aWait 3 2 34 ∷ []))) gives answer (Pair 30 3 0))
     ∷ (shortest (planOf (haulWith (aWait 3 2 34 ∷ []))) 30 3 0 gives below 45)

@@ -11,6 +11,6 @@ pub mod Making
 pub mod Players
 pub mod Play
 pub mod Lasting
-pub mod Haul
 pub mod TestYes
+pub mod Haul
 pub mod SingleReply

@@ -1,7 +1,7 @@
 -- Closing a table that has every edge gives the distances, or a cycle of negative sum. Assumes nothing.
-use mathlib.Core.Path.{_≡_, refl, subst}
-use mathlib.Core.Logic.{_⊎_, inl, inr, ⊎-elim}
-use mathlib.Core.Bool.{Bool, true, false}
+use mathlib.Core.Path.{_≡_, subst}
+use mathlib.Core.Logic.{⊎-elim}
+use mathlib.Core.Bool.{true, false}
 use Prim.Native.Nat.{ℕ, _+_, _*_, _^_, _<_, _≤_}
 use native.Mathlib.Omega.{arith}
 use native.Mathlib.Decide.{decLt}
@@ -12,7 +12,7 @@ use Rattle.network.specs.Walks.{Walk, nil, step}
 use Rattle.plan.specs.Limits.{farthest}
 use Rattle.network.specs.Passing.{Cycle, Consistent}
 use Rattle.network.proofs.Laws.{append}
-use Rattle.vee.specs.Tables.{Table, bias, none, half, side, Best, Passed, Closing, Closed, Within, Near}
+use Rattle.vee.specs.Tables.{Table, bias, none, half, side, Passed, Closing, Closed, Within, Near}
 use Rattle.vee.specs.Tables.Closing.{first, next}
 use Rattle.vee.specs.Tables.Closed.{calm, below}
 use Rattle.vee.specs.Distances.{Attained, Inside, Drawn, Distances}

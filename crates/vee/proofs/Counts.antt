@@ -1,15 +1,15 @@
 -- The count of the projections, from the last link to the first. Assumes nothing.
-use mathlib.Core.Path.{_≡_, refl, sym, subst}
-use mathlib.Core.List.{List, [], _∷_}
-use Prim.Native.Nat.{ℕ, zero, suc, _+_, _-_, _*_, _<_, _≤_, _^_}
+use mathlib.Core.Path.{_≡_, refl}
+use mathlib.Core.List.{List}
+use Prim.Native.Nat.{ℕ, zero, suc, _+_, _-_, _*_, _<_, _≤_}
 use native.Mathlib.Omega.{arith}
 use native.Mathlib.Nat.{suc-mul, mul-le-mul}
 use native.Mathlib.Numerals.{add-one}
-use lib.ListN.{length}
 use Rattle.plan.specs.Limits.{farthest}
 use mir.Syntax.{w64}
 use mir.Val.{Fits}
-use Rattle.vee.specs.Sheet.{firstAt, secondAt}
+use Rattle.vee.specs.declared.sheet.Row.{Row}
+use Rattle.vee.specs.Sheet.{firstAt, secondAt, rowAt}
 use Rattle.vee.specs.PlanTest.{many, mostProjections}
 use Rattle.vee.specs.Walked.{spansIn, RowsReady, CountedAs}
 
@@ -47,29 +47,31 @@ module _ {s : List ℕ} {past links : ℕ} (r : RowsReady s past links) where
   all-more (suc j) k e = omega (arith, more k (omega arith), all-more j (k + 1) (omega arith))
 
 module _ {s : List ℕ} {past links k total : ℕ} (c : Counting s past links k total) where
-  pub last-in : k < links → (firstAt s (past - (k + 1)) ≤ secondAt s (past - (k + 1))) × (secondAt s (past - (k + 1)) ≤ farthest)
-  last-in h =
-      let r = c .ready in
-      (r .some (past - (k + 1)) (omega (arith, r .before)) (omega (arith, r .before)), r .short (past - (k + 1)) (omega (arith, r .before)) (omega (arith, r .before)))
+  -- the next link, by its row as the code reads it
+  module _ {r : Row} (e : r ≡ rowAt s (past - (k + 1))) where
+    pub last-in : k < links → (r .first ≤ r .second) × (r .second ≤ farthest)
+    last-in h =
+        let d = c .ready in
+        rw e (d .some (past - (k + 1)) (omega (arith, d .before)) (omega (arith, d .before)), d .short (past - (k + 1)) (omega (arith, d .before)) (omega (arith, d .before)))
 
-  abbrev product : ℕ
-  product = (secondAt s (past - (k + 1)) + 1 - firstAt s (past - (k + 1))) * total
+    abbrev product : ℕ
+    product = (r .second + 1 - r .first) * total
 
-  pub product-fits : k < links → Fits w64 product
-  product-fits h =
-      let l = last-in h in
-      let a : secondAt s (past - (k + 1)) + 1 - firstAt s (past - (k + 1)) ≤ farthest + 1 = omega arith in
-      let b : product ≤ (farthest + 1) * mostProjections = mul-le-mul a (c .few) in
-      record { fits = omega arith }
+    pub product-fits : k < links → Fits w64 product
+    product-fits h =
+        let l = last-in h in
+        let a : r .second + 1 - r .first ≤ farthest + 1 = omega arith in
+        let b : product ≤ (farthest + 1) * mostProjections = mul-le-mul a (c .few) in
+        record { fits = omega arith }
 
-  same : product ≡ many (spansIn s past (k + 1))
-  same = rw (one-more s past k, c .so-far) refl
+    same : product ≡ many (spansIn s past (k + 1))
+    same = rw (e, one-more s past k, c .so-far) refl
 
-  pub over-many : k < links → mostProjections < product → CountedAs s past links product
-  over-many h l = record { few = λ g. absurd (omega arith); many-more = λ _. omega (arith, same, all-more (c .ready) (links - (k + 1)) (k + 1) (omega arith)) }
+    pub over-many : k < links → mostProjections < product → CountedAs s past links product
+    over-many h l = record { few = λ g. absurd (omega arith); many-more = λ _. omega (arith, same, all-more (c .ready) (links - (k + 1)) (k + 1) (omega arith)) }
 
-  pub counted-on : k < links → product ≤ mostProjections → Counting s past links (k + 1) product
-  counted-on h l = record { ready = c .ready; within = omega arith; few = l; so-far = same }
+    pub counted-on : k < links → product ≤ mostProjections → Counting s past links (k + 1) product
+    counted-on h l = record { ready = c .ready; within = omega arith; few = l; so-far = same }
 
   pub counted-all : links ≤ k → CountedAs s past links total
   counted-all h =

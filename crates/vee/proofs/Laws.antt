@@ -1,12 +1,9 @@
 -- What the three tables say of a network: a pair is fine or bad as they have it. Assumes nothing.
 use mathlib.Core.Path.{_≡_, refl, subst}
-use mathlib.Core.Logic.{_⊎_, inl, inr}
-use mathlib.Core.Bool.{Bool, true, false}
 use Prim.Native.Nat.{ℕ, _+_, _<_, _≤_}
 use native.Mathlib.Omega.{arith}
-use native.Mathlib.Decide.{decLt}
 use Rattle.network.specs.Walks.{Walk, nil, step, Negative, NonNegative, Vee, vee}
-use Rattle.network.specs.Passing.{Joined, Cycle, Consistent, Shortest, Fine, Bad, Dispatchable, Good}
+use Rattle.network.specs.Passing.{Joined, Cycle, Consistent, Shortest, Fine, Bad, Good}
 use Rattle.network.proofs.Laws.{over}
 use Rattle.vee.specs.Tables.{Table, bias, none}
 use Rattle.vee.specs.Distances.{Inside, Distances}

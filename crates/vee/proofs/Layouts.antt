@@ -1,12 +1,12 @@
 -- A plan laid out on a sheet, record by record. Assumes nothing.
-use mathlib.Core.Path.{_≡_, refl, sym, subst, ap, _∙_}
+use mathlib.Core.Path.{_≡_, refl, sym, _∙_}
 use mathlib.Core.Logic.{_≢_}
 use mathlib.Core.Bool.{Bool, true, false}
 use mathlib.Core.List.{List, [], _∷_}
-use Prim.Native.Nat.{ℕ, zero, suc, _+_, _-_, _*_, _<_, _≤_}
+use Prim.Native.Nat.{ℕ, suc, _+_, _-_, _*_, _<_, _≤_}
 use native.Mathlib.Omega.{arith}
 use native.Mathlib.Decide.{ℕ-discrete}
-use lib.ListN.{length, getD, set, take, length-set, length-take}
+use lib.ListN.{length, getD, set, length-set, length-take}
 use lib.Seq.{getD-set-same, getD-set-other, getD-take}
 use Rattle.plan.specs.Choice.{if_then_else_}
 use Rattle.plan.specs.Limits.{mostRecords}
@@ -16,9 +16,15 @@ use Rattle.plan.specs.declared.Record.{Record}
 use Rattle.plan.specs.declared.Plan.{Plan}
 use Rattle.plan.specs.declared.Found.{Found}
 use Rattle.plan.specs.declared.Found.the-variants.{At, Nothing}
-use Rattle.vee.specs.declared.layout.Row.{Row}
+use Rattle.vee.specs.declared.sheet.Row.{Row}
 use Rattle.vee.specs.Sheet.{width, sheetRoom}
-use Rattle.vee.specs.Layout.{rowOf, RowIs, Written, LaidOut}
+use Rattle.vee.specs.Layout.{rowOf, RowIs, stored, LaidOut}
+
+-- row q of the sheet is written, and no other
+pub record Written (q : ℕ) (x : Row) (s s′ : List ℕ) : Type 0 where
+  pub long : length s′ ≡ sheetRoom
+  pub here : RowIs s′ q x
+  pub other : (q′ : ℕ) → q′ ≢ q → (x′ : Row) → RowIs s q′ x′ → RowIs s′ q′ x′
 
 skip : (l : List ℕ) (i j v r : ℕ) → j ≢ i → getD l j 0 ≡ r → getD (set l i v) j 0 ≡ r
 skip l i j v r n e = getD-set-other l i j v 0 n ∙ e
@@ -66,7 +72,7 @@ module _ (q : ℕ) (x : Row) (s : List ℕ) (h : q < mostRecords) (long : length
   far p r n e =
       skip s5 (a + 5) p (x .over) r (n .5) (skip s4 (a + 4) p (x .second) r (n .4) (skip s3 (a + 3) p (x .first) r (n .3) (skip s2 (a + 2) p (x .to) r (n .2) (skip s1 (a + 1) p (x .from) r (n .1) (skip s a p (x .kind) r (n .0) e)))))
 
-  pub written : Written q x s s6
+  written : Written q x s s6
   written = record { long = same-room; here = here; other = other }
     where
       apart : (q′ j : ℕ) → q′ ≢ q → j < width → (q′ * width + j ≢ q * width) × (q′ * width + j ≢ q * width + 1) × (q′ * width + j ≢ q * width + 2) × (q′ * width + j ≢ q * width + 3) × (q′ * width + j ≢ q * width + 4) × (q′ * width + j ≢ q * width + 5)
@@ -126,7 +132,7 @@ turn {rs} {q} {s} {s′} l w = record { long = w .long; rows = rows }
     ]
 
 pub ended : {rs : List Record} {q : ℕ} {s : List ℕ} → length rs ≤ q → Laying rs q s → LaidOut rs s
-ended h l = record { long = l .long; rows = λ q k. l .rows q (omega arith) }
+ended h l = record { rows = λ q k. l .rows q (omega arith) }
 
 -- the A of the link at the place that was found
 module _ (p : Plan) (so : Record → Bool) (few : p .count ≤ mostRecords) (long : length (p .records) ≡ mostRecords) where
@@ -143,8 +149,9 @@ module _ (p : Plan) (so : Record → Bool) (few : p .count ≤ mostRecords) (lon
   found-nowhere e h = no-place so 0 (recordsOf p) (sym e ∙ h)
 
 -- the row of the record that the code reads
-pub laid-row : (p : Plan) (q : ℕ) {x : Row} {s s′ : List ℕ} → q < p .count → x ≡ rowOf (recordsOf p) (getD (p .records) q blank) → Written q x s s′ → Written q (rowOf (recordsOf p) (getD (recordsOf p) q blank)) s s′
-laid-row p q h e w = rw (getD-take (p .count) (p .records) q blank h, ← e) w
+pub laid-row : (p : Plan) (q : ℕ) {x : Row} {s s′ : List ℕ} → p .count ≤ mostRecords → q < p .count → length s ≡ sheetRoom → x ≡ rowOf (recordsOf p) (getD (p .records) q blank) → s′ ≡ stored s q x
+    → Written q (rowOf (recordsOf p) (getD (recordsOf p) q blank)) s s′
+laid-row p q {x} {s} few h long e w = rw (getD-take (p .count) (p .records) q blank h, ← e, w) (written q x s (omega arith) long)
 
 pub records-in : (p : Plan) {q : ℕ} → length (p .records) ≡ mostRecords → p .count ≤ mostRecords → p .count ≤ q → length (recordsOf p) ≤ q
 records-in p long few h = omega (arith, length-take (p .count) (p .records))

@@ -9,10 +9,11 @@ use native.Mathlib.Decide.{ℕ-discrete}
 use lib.ListN.{length}
 use Rattle.plan.specs.Limits.{farthest}
 use Rattle.vee.specs.declared.table.Part.{Part}
+use Rattle.vee.specs.declared.sheet.Row.{Row}
 use Rattle.vee.specs.Tables.{side, room, at}
 use Rattle.vee.specs.Distances.{Drawn}
 use Rattle.vee.specs.Steps.{OfferedOf, takesOf, Begun}
-use Rattle.vee.specs.Sheet.{kindAt, fromAt, toAt, firstAt, secondAt, overAt, by, Laid, ordinary, there, back, wait, SheetEdge, PartOf, SheetReady, Drawing}
+use Rattle.vee.specs.Sheet.{kindAt, fromAt, toAt, firstAt, secondAt, overAt, rowAt, by, Laid, ordinary, there, back, wait, SheetEdge, PartOf, SheetReady, Drawing}
 use Rattle.vee.specs.Filled.{PutReady, Put, ordinary-put, wait-put, link-put, nothing-put, LayReady}
 use Rattle.vee.specs.Tables.{Closed}
 use Rattle.vee.specs.Steps.{CloseDone}
@@ -182,20 +183,20 @@ module _ (b : Part) (s w : List ℕ) (n q : ℕ) (t : List ℕ) (ready : LayRead
             refl
             (at-place (sr .few) (to-in h) (from-in h) o′)
 
-  -- what row q's offers ask
-  pub over-in : overAt s q < side
-  over-in = sr .over q (ready .below)
+  -- what the offers of row q ask, the row as the code reads it
+  pub over-in : {r : Row} {o : ℕ} → r ≡ rowAt s q → o ≡ r .over → o < side
+  over-in e ho = rw (ho, e) (sr .over q (ready .below))
 
-  module _ {i j o : ℕ} (hi : i ≡ fromAt s q) (hj : j ≡ toAt s q) (ho : o ≡ overAt s q) where
-    pub may-put : PutReady (kindAt s q) i j (firstAt s q) (secondAt s q) (by w o) t
-    may-put = record {
+  module _ {r : Row} {i j o : ℕ} (e : r ≡ rowAt s q) (hi : i ≡ r .from) (hj : j ≡ r .to) (ho : o ≡ r .over) where
+    pub may-put : PutReady (r .kind) i j (r .first) (r .second) (by w o) t
+    may-put = rw (hi, hj, e) (record {
       long = ready .so-far .long;
       from = λ h. omega (arith, from-in h, sr .few);
       to = λ h. omega (arith, to-in h, sr .few);
       first = first-in;
       second = second-in;
       lasts = sr .durations o;
-    }
+    })
 
     -- and what they do
     row-put : {t′ : List ℕ} → Put b (kindAt s q) (fromAt s q) (toAt s q) (firstAt s q) (secondAt s q) (by w (overAt s q)) t t′ → Drawing b s w n (q + 1) t′
@@ -204,8 +205,8 @@ module _ (b : Part) (s w : List ℕ) (n q : ℕ) (t : List ℕ) (ready : LayRead
     row-put (link-put k e e′) = link-row _ (e′ .long) _ k e e′
     row-put (nothing-put a c g e) = other-row _ (rw e (ready .so-far .long)) e a c g
 
-    pub put-row : {t′ : List ℕ} → Put b (kindAt s q) i j (firstAt s q) (secondAt s q) (by w o) t t′ → Drawing b s w n (q + 1) t′
-    put-row {t′} p = row-put (rw (hi, hj, ho) at p)
+    pub put-row : {t′ : List ℕ} → Put b (r .kind) i j (r .first) (r .second) (by w o) t t′ → Drawing b s w n (q + 1) t′
+    put-row {t′} p = row-put (rw (hi, hj, ho, e) at p)
 
 -- before the first row
 pub none-yet : (b : Part) (s w : List ℕ) (n : ℕ) (t : List ℕ) → n ≤ side → Begun t → Drawing b s w n 0 t

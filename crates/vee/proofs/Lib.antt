@@ -23,3 +23,4 @@ pub mod Single
 pub mod Numbered
 pub mod Arcs
 pub mod Executable
+pub mod EndsOnly

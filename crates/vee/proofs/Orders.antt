@@ -1,21 +1,18 @@
 -- The kinds of a plan's records never fall, so its links are the rows after its points, in order. Assumes nothing.
-use mathlib.Core.Path.{_≡_, refl, sym, subst, ap, _∙_}
-use mathlib.Core.Logic.{_⊎_, inl, inr}
-use mathlib.Core.Bool.{Bool, true, false}
+use mathlib.Core.Path.{_≡_, refl, subst, _∙_}
+use mathlib.Core.Bool.{true}
 use mathlib.Core.List.{List, [], _∷_, _++_}
-use Prim.Native.Nat.{ℕ, zero, suc, _+_, _-_, _<_, _≤_}
+use Prim.Native.Nat.{ℕ, suc, _+_, _-_, _<_, _≤_}
 use native.Mathlib.Omega.{arith}
 use native.Mathlib.Decide.{ℕ-discrete}
 use lib.Dec.{eqb}
 use lib.ListN.{length, getD}
-use borrow.Author.Tests.{eqb-true, leb-true, ne-eqb, eq-eqb}
-use Rattle.plan.specs.Choice.{if_then_else_}
-use Rattle.plan.specs.APlan.{point, link, is, one, howMany, blank, gapOf}
-use Rattle.plan.specs.ReplyNumbers.{after, lastKind}
+use borrow.Author.Tests.{leb-true, ne-eqb, eq-eqb}
+use Rattle.plan.specs.APlan.{point, link, is, one, howMany, blank}
+use Rattle.plan.specs.ReplyNumbers.{lastKind}
 use Rattle.plan.specs.declared.Record.{Record}
-use Rattle.vee.specs.Sheet.{firstAt, secondAt, overAt}
 use Rattle.vee.specs.Layout.{rowOf, RowIs}
-use Rattle.vee.specs.PlanTest.{Span, spanOf, spans}
+use Rattle.vee.specs.PlanTest.{spanOf, spans}
 use Rattle.vee.specs.Walked.{spanAt, spansIn}
 use Rattle.vee.proofs.Rules.{Valid, no-more, one-more}
 use Rattle.vee.proofs.Sheets.{second-link}

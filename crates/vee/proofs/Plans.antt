@@ -11,7 +11,7 @@ use lib.ListN.{length, getD}
 use borrow.Author.Tests.{eqb-true, eq-eqb}
 use Rattle.plan.specs.Choice.{if_then_else_}
 use Rattle.plan.specs.Limits.{mostPoints, farthest}
-use Rattle.plan.specs.APlan.{point, link, is, endsAt, one, howMany, some, watched, firstThat, linkTo, blank, gapOf}
+use Rattle.plan.specs.APlan.{point, link, is, endsAt, howMany, some, watched, firstThat, linkTo, blank, gapOf}
 use Rattle.plan.specs.declared.Record.{Record}
 use Rattle.vee.proofs.Rules.{Valid, no-more, one-more, Sort, a-point, a-link, an-ordinary, a-wait, sort, each, both, clash}
 

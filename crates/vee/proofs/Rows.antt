@@ -1,13 +1,13 @@
 -- A pass in place, row by row.
-use mathlib.Core.Path.{_≡_, refl, sym, _∙_, ap}
+use mathlib.Core.Path.{_≡_, refl, _∙_}
 use mathlib.Core.Logic.{_⊎_, _≢_, inl, inr, ⊎-elim}
 use mathlib.Core.List.{List}
 use Prim.Native.Nat.{ℕ, _+_, _*_, _<_, _≤_}
 use native.Mathlib.Omega.{arith}
 use native.Mathlib.Decide.{decLt, ℕ-discrete}
-use lib.ListN.{length, getD, set, length-set}
+use lib.ListN.{length, set, length-set}
 use lib.Seq.{getD-set-same, getD-set-other}
-use Rattle.vee.specs.Tables.{bias, none, half, side, room, at, Best, Near, Passed}
+use Rattle.vee.specs.Tables.{bias, none, half, side, room, at, Best}
 use Rattle.vee.specs.Steps.{RowReady, RowDone, PassReady, PassDone}
 
 -- the row i before its entry j: t₀ is the table before the row

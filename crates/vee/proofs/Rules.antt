@@ -1,20 +1,18 @@
 -- What the records of a plan that is not refused have passed, as far as the test needs it. Assumes nothing.
-use mathlib.Core.Path.{_≡_, refl, sym, subst, ap, _∙_}
-use mathlib.Core.Logic.{_⊎_, inl, inr}
-use mathlib.Core.Bool.{Bool, true, false, not, _&&_, _||_}
+use mathlib.Core.Path.{_≡_, refl, sym, _∙_}
+use mathlib.Core.Bool.{Bool, true, false, not, _&&_}
 use mathlib.Core.List.{List, [], _∷_, _++_, map, append-assoc}
-use Prim.Native.Nat.{ℕ, zero, suc, _+_, _-_, _<_, _≤_}
+use Prim.Native.Nat.{ℕ, zero, suc, _<_, _≤_}
 use native.Mathlib.Omega.{arith}
-use lib.Dec.{eqb, ltb, leb, eqb·suc-zero}
+use lib.Dec.{eqb, ltb, eqb·suc-zero}
 use lib.IntN.{ℤ, pos, negsuc, negℤ}
 use lib.Signed.{leZ, ltZ}
-use lib.ListN.{length, getD, take}
+use lib.ListN.{length, getD}
 use borrow.Author.Tests.{ltb-true, leb-true, eqb-true}
 use Rattle.plan.specs.Choice.{if_then_else_}
 use Rattle.plan.specs.Limits.{mostPoints, farthest}
-use Rattle.plan.specs.APlan.{Kind, point, link, ordinary, wait, unknown, kindOf, is, most, one, howMany, some, watched, linkTo, blank, gapOf}
-use Rattle.plan.specs.ReplyNumbers.{Before, after, lastKind, isNought, isKnown, inOrder, roomFor, zeros, named, apart, joined, bounded, numberFor, numberOf, firstBad}
-use Rattle.plan.specs.PlanFile.{Entry}
+use Rattle.plan.specs.APlan.{Kind, point, link, ordinary, wait, unknown, kindOf, is, howMany, watched, linkTo, blank, gapOf}
+use Rattle.plan.specs.ReplyNumbers.{Before, after, isKnown, inOrder, roomFor, zeros, named, apart, joined, bounded, numberFor, numberOf, firstBad}
 use Rattle.plan.specs.Held.{plain}
 use Rattle.plan.specs.declared.Record.{Record}
 

@@ -105,7 +105,6 @@ module _ (rs : List Record) (v : Valid [] rs) (s : List ℕ) (out : LaidOut rs s
 
   pub sheet-ready : (w : List ℕ) → length rs ≤ mostRecords → length w ≡ side → ((C : ℕ) → by w C ≤ farthest) → SheetReady s w (length rs) (howMany (is point) rs)
   sheet-ready w hm hw hd = record {
-    long = out .long;
     wide = hw;
     rows = hm;
     few = few;

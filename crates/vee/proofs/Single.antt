@@ -1,12 +1,12 @@
 -- The test has at most one answer to a plan. Assumes nothing.
-use mathlib.Core.Path.{_≡_, refl, ap, _∙_}
-use mathlib.Core.Logic.{_⊎_, inl, inr}
-use mathlib.Core.List.{List, [], _∷_}
-use Prim.Native.Nat.{ℕ, _+_, _<_, _≤_}
+use mathlib.Core.Path.{_≡_, refl, _∙_}
+use mathlib.Core.Logic.{inl, inr}
+use mathlib.Core.List.{List}
+use Prim.Native.Nat.{ℕ}
 use native.Mathlib.Omega.{arith}
 use native.Mathlib.Decide.{decLt}
 use borrow.Author.Tests.{ne-eqb, lt-ltb, le-ltb}
-use Rattle.network.specs.Passing.{Cycle, Consistent, Good}
+use Rattle.network.specs.Passing.{Good}
 use Rattle.network.proofs.Laws.{not-both, not-fine}
 use Rattle.plan.specs.declared.Plan.{Plan}
 use Rattle.vee.specs.declared.Answer.{Answer}

@@ -1,6 +1,6 @@
 -- The test of a plan, put together. Assumes nothing.
 use mathlib.Core.Path.{_≡_, refl, ap}
-use mathlib.Core.Bool.{Bool, true, false, not}
+use mathlib.Core.Bool.{Bool, true, false}
 use mathlib.Core.List.{List, [], _∷_}
 use Prim.Native.Nat.{ℕ, zero, suc, _+_, _-_, _<_, _≤_}
 use native.Mathlib.Omega.{arith}
@@ -114,7 +114,6 @@ module _ (rs : List Record) (v : Valid [] rs) (s : List ℕ) (out : LaidOut rs s
 
   pub may-count : RowsReady s (howMany (is point) rs + howMany (is link) rs) (howMany (is link) rs)
   may-count = record {
-    long = out .long;
     before = omega arith;
     rows = omega (arith, among rs);
     some = λ q h k. able-rows q h k .some;

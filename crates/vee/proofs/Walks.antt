@@ -1,19 +1,19 @@
 -- The walk over the durations of a link, all that follows it walked for each. Assumes nothing.
-use mathlib.Core.Path.{_≡_, refl, sym, subst, ap, _∙_}
-use mathlib.Core.Bool.{true, false}
-use mathlib.Core.List.{List, [], _∷_, _++_, append-assoc}
+use mathlib.Core.Path.{_≡_, refl, subst, _∙_}
+use mathlib.Core.List.{List, [], _∷_, _++_}
 use Prim.Native.Nat.{ℕ, zero, suc, _+_, _-_, _*_, _<_, _≤_}
 use native.Mathlib.Omega.{arith}
-use native.Mathlib.Nat.{suc-mul, add-zero}
+use native.Mathlib.Nat.{suc-mul}
 use native.Mathlib.Numerals.{add-one}
 use native.Mathlib.Decide.{ℕ-discrete}
-use lib.ListN.{length, getD, set, length-set, length-append}
+use lib.ListN.{length, set, length-set, length-append}
 use lib.Seq.{getD-set-same, getD-set-other}
 use Rattle.plan.specs.Limits.{farthest}
 use Rattle.vee.specs.declared.Answer.{Answer}
 use Rattle.vee.specs.declared.Answer.the-variants as answer
 use Rattle.vee.specs.Tables.{side}
-use Rattle.vee.specs.Sheet.{SheetReady, SheetEdge, firstAt, secondAt, overAt, by}
+use Rattle.vee.specs.declared.sheet.Row.{Row}
+use Rattle.vee.specs.Sheet.{SheetReady, SheetEdge, firstAt, secondAt, overAt, rowAt, by}
 use Rattle.vee.specs.PlanTest.{Span, spread, projections, many, mostProjections, Found, all-good, good, cycle, pair}
 use Rattle.vee.specs.Walked.{JudgeReady, JudgedOf, is-good, has-cycle, has-pair, spanAt, spansIn, WalkReady, Walked}
 
@@ -90,9 +90,9 @@ pub record Turning (s w : List ℕ) (m n past k i p next : ℕ) : Type 0 where
   pub rest : (r : Answer) → Found (λ w. SheetEdge s w m) next (spread (projections (spansIn s past (k - 1))) (overAt s (past - k)) p (suc (secondAt s (past - k)) - p) w) r → Walked s w m past k i r
 
 module _ {s w : List ℕ} {m n past k i : ℕ} where
-  pub begins : WalkReady s w m n past k i → (k ≡ 0 → ⊥) → Turning s w m n past k i (firstAt s (past - k)) i
+  begins-at : WalkReady s w m n past k i → (k ≡ 0 → ⊥) → Turning s w m n past k i (firstAt s (past - k)) i
   unfolding many projections
-  begins h e =
+  begins-at h e =
       let more : 0 < k = omega arith in
       let u = unfolded s past k more in
       record {
@@ -103,8 +103,12 @@ module _ {s w : List ℕ} {m n past k i : ℕ} where
         rest = λ r f. rw u f;
       }
 
-  pub over-in : {p next : ℕ} → Turning s w m n past k i p next → overAt s (past - k) < side
-  over-in t = t .ready .ready .over (past - k) (omega (arith, t .more, t .ready .before, t .ready .rows))
+  -- the link's row as the code reads it
+  pub begins : {r : Row} → WalkReady s w m n past k i → (k ≡ 0 → ⊥) → r ≡ rowAt s (past - k) → Turning s w m n past k i (r .first) i
+  begins h n e = rw e (begins-at h n)
+
+  pub over-in : {p next o : ℕ} {r : Row} → r ≡ rowAt s (past - k) → o ≡ r .over → Turning s w m n past k i p next → o < side
+  over-in e ho t = rw (ho, e) (t .ready .ready .over (past - k) (omega (arith, t .more, t .ready .before, t .ready .rows)))
 
   pub last-fits : {p next : ℕ} → Turning s w m n past k i p next → secondAt s (past - k) ≤ farthest
   last-fits t = t .ready .short (past - k) (omega (arith, t .more, t .ready .before)) (omega arith)
@@ -123,7 +127,6 @@ module _ {s w : List ℕ} {m n past k i : ℕ} where
     chosen =
         let r = t .ready .ready in
         record {
-          long = r .long;
           wide = length-set w (overAt s (past - k)) p ∙ r .wide;
           rows = r .rows;
           few = r .few;
@@ -184,19 +187,23 @@ module _ {s w : List ℕ} {m n past k i : ℕ} where
         go (answer.Cycle x) h = refl
         go (answer.Pair x y z) h = refl
 
-    -- the same, as the code has the place and the durations
-    module _ {o : ℕ} {w′ : List ℕ} (ho : o ≡ overAt s (past - k)) (hw : w′ ≡ set w o p) where
-      pub may-walk : WalkReady s w′ m n past (k - 1) next
-      may-walk = rw (hw, ho) may-go
+  -- the same, as the code has the row and the durations
+  module _ {p next o : ℕ} {r : Row} {w′ : List ℕ} (t : Turning s w m n past k i p next) (e : r ≡ rowAt s (past - k)) (l : p ≤ r .second) (ho : o ≡ r .over) (hw : w′ ≡ set w o p) where
+    low : p ≤ secondAt s (past - k)
+    low = rw e at l
 
-      pub walked-on : {j : ℕ} {a : Answer} → a ≡ answer.Yes j → Walked s w′ m past (k - 1) next a → Turning s w m n past k i (p + 1) j
-      walked-on e f = goes-on (rw (hw, ho, e) at f)
+    pub may-walk : WalkReady s w′ m n past (k - 1) next
+    may-walk = rw (hw, ho, e) (may-go t low)
 
-      pub walked-off : (a : Answer) → ((j : ℕ) → a ≡ answer.Yes j → ⊥) → Walked s w′ m past (k - 1) next a → Walked s w m past k i a
-      walked-off a h f = stops a h (rw (hw, ho) at f)
+    pub walked-on : {j : ℕ} {a : Answer} → a ≡ answer.Yes j → Walked s w′ m past (k - 1) next a → Turning s w m n past k i (p + 1) j
+    walked-on y f = goes-on t low (rw (hw, ho, e, y) at f)
 
-  pub ends : {p next : ℕ} → Turning s w m n past k i p next → secondAt s (past - k) < p → Walked s w m past k i (answer.Yes next)
+    pub walked-off : (a : Answer) → ((j : ℕ) → a ≡ answer.Yes j → ⊥) → Walked s w′ m past (k - 1) next a → Walked s w m past k i a
+    walked-off a h f = stops t low a h (rw (hw, ho, e) at f)
+
+  pub ends : {p next : ℕ} {r : Row} → r ≡ rowAt s (past - k) → Turning s w m n past k i p next → r .second < p → Walked s w m past k i (answer.Yes next)
   unfolding spread
-  ends {p} {next} t l =
-      let e : suc (secondAt s (past - k)) - p ≡ 0 = omega arith in
-      t .rest (answer.Yes next) (rw e all-good)
+  ends {p} {next} e t l =
+      let h : secondAt s (past - k) < p = rw e at l in
+      let z : suc (secondAt s (past - k)) - p ≡ 0 = omega arith in
+      t .rest (answer.Yes next) (rw z all-good)

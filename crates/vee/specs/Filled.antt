@@ -2,14 +2,14 @@
 use mathlib.Core.Path.{_≡_}
 use mathlib.Core.Bool.{Bool, true, false}
 use mathlib.Core.List.{List}
-use Prim.Native.Nat.{ℕ, min, _+_, _<_, _≤_}
+use Prim.Native.Nat.{ℕ, min, _<_, _≤_}
 use lib.ListN.{length}
 use Rattle.network.specs.Passing.{Cycle, Consistent}
 use Rattle.vee.specs.declared.table.Part.{Part}
 use Rattle.plan.specs.Limits.{farthest}
 use Rattle.vee.specs.Tables.{side, room, at}
 use Rattle.vee.specs.Steps.{takesOf, OfferedOf}
-use Rattle.vee.specs.Distances.{Drawn, Distances}
+use Rattle.vee.specs.Distances.{Distances}
 use Rattle.vee.specs.Sheet.{SheetEdge, PartOf, SheetReady, Drawing}
 
 -- what one row's offers ask, and what they do

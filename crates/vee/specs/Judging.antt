@@ -3,7 +3,7 @@
 use mathlib.Core.Path.{_≡_}
 use mathlib.Core.Logic.{_⊎_}
 use Prim.Native.Nat.{ℕ, _<_}
-use Rattle.network.specs.Passing.{Cycle, Consistent, Fine, Bad, Good}
+use Rattle.network.specs.Passing.{Consistent, Fine, Bad}
 
 -- the pair (X, Y) comes before (X′, Y′): X slowest
 abbrev pub Before : ℕ → ℕ → ℕ → ℕ → Type 0

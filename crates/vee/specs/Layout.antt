@@ -1,15 +1,13 @@
 -- The sheet of a plan: the row of each record. A reader of the rules can leave this page out. Assumes nothing.
 use mathlib.Core.Path.{_≡_}
-use mathlib.Core.Logic.{_≢_}
-use mathlib.Core.Bool.{true, false}
 use mathlib.Core.List.{List}
-use Prim.Native.Nat.{ℕ, _<_}
-use lib.ListN.{length, getD}
+use Prim.Native.Nat.{ℕ, _+_, _*_, _<_}
+use lib.ListN.{length, getD, set}
 use Rattle.plan.specs.Choice.{if_then_else_}
 use Rattle.plan.specs.APlan.{link, wait, is, blank, gapOf, linkTo}
 use Rattle.plan.specs.declared.Record.{Record}
-use Rattle.vee.specs.declared.layout.Row.{Row}
-use Rattle.vee.specs.Sheet.{kindAt, fromAt, toAt, firstAt, secondAt, overAt, sheetRoom}
+use Rattle.vee.specs.declared.sheet.Row.{Row}
+use Rattle.vee.specs.Sheet.{kindAt, fromAt, toAt, firstAt, secondAt, overAt, width}
 
 abbrev pub rowOf : List Record → Record → Row
 rowOf rs r =
@@ -31,13 +29,17 @@ pub record RowIs (s : List ℕ) (q : ℕ) (x : Row) : Type 0 where
   pub second : secondAt s q ≡ x .second
   pub over : overAt s q ≡ x .over
 
--- row q of the sheet is written, and no other
-pub record Written (q : ℕ) (x : Row) (s s′ : List ℕ) : Type 0 where
-  pub long : length s′ ≡ sheetRoom
-  pub here : RowIs s′ q x
-  pub other : (q′ : ℕ) → q′ ≢ q → (x′ : Row) → RowIs s q′ x′ → RowIs s′ q′ x′
+-- the sheet with x as its row q
+abbrev pub stored : List ℕ → ℕ → Row → List ℕ
+stored s q x =
+    set
+    (set
+    (set (set (set (set s (q * width) (x .kind)) (q * width + 1) (x .from)) (q * width + 2) (x .to)) (q * width + 3) (x .first))
+    (q * width + 4)
+    (x .second))
+    (q * width + 5)
+    (x .over)
 
 -- each record has its row
 pub record LaidOut (rs : List Record) (s : List ℕ) : Type 0 where
-  pub long : length s ≡ sheetRoom
   pub rows : (q : ℕ) → q < length rs → RowIs s q (rowOf rs (getD rs q blank))

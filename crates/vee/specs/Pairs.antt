@@ -1,6 +1,5 @@
 -- What the functions that look for the first bad pair ask and answer. A reader of the rules can leave this page out.
 -- Assumes nothing.
-use mathlib.Core.Path.{_≡_}
 use mathlib.Core.Bool.{Bool, true, false}
 use Prim.Native.Nat.{ℕ, _+_, _<_, _≤_}
 use Rattle.vee.specs.declared.pairs.Pair.{Pair}

@@ -1,13 +1,13 @@
 -- The sheet: the records of a plan laid out as six numbers each, so that they can be lent to the test, and the edges that
 -- the rows of a sheet stand for. A reader of the rules can leave this page out. Assumes nothing.
 use mathlib.Core.Path.{_≡_}
-use mathlib.Core.Bool.{Bool, true, false}
+use mathlib.Core.Bool.{true}
 use mathlib.Core.List.{List}
 use Prim.Native.Nat.{ℕ, min, _+_, _*_, _<_, _≤_}
 use lib.ListN.{length, getD}
-use Rattle.network.specs.Walks.{Walk}
 use Rattle.plan.specs.Limits.{farthest, mostRecords}
 use Rattle.vee.specs.declared.table.Part.{Part}
+use Rattle.vee.specs.declared.sheet.Row.{Row}
 use Rattle.vee.specs.Tables.{side, room, at}
 use Rattle.vee.specs.Distances.{Drawn}
 use Rattle.vee.specs.Steps.{takesOf}
@@ -41,6 +41,10 @@ secondAt s q = field s q 4
 abbrev pub overAt : List ℕ → ℕ → ℕ
 overAt s q = field s q 5
 
+-- row q of a sheet
+abbrev pub rowAt : List ℕ → ℕ → Row
+rowAt s q = record { kind = kindAt s q; from = fromAt s q; to = toAt s q; first = firstAt s q; second = secondAt s q; over = overAt s q }
+
 -- the durations, by the links' C
 abbrev pub by : List ℕ → ℕ → ℕ
 by w C = getD w C 0
@@ -65,7 +69,6 @@ pub record PartOf (b : Part) (E : ℕ → ℕ → ℕ → ℕ → Type 0) (X Y u
 
 -- a sheet of m records on n points, and durations: what is joined is there, and no number is too far from 0
 pub record SheetReady (s w : List ℕ) (m n : ℕ) : Type 0 where
-  pub long : length s ≡ sheetRoom
   pub wide : length w ≡ side
   pub rows : m ≤ mostRecords
   pub few : n ≤ side

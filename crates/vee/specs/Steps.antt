@@ -9,7 +9,7 @@ use lib.Dec.{ltb, leb}
 use lib.ListN.{length, getD}
 use Rattle.vee.specs.declared.table.Part.{Part}
 use Rattle.vee.specs.declared.table.Part.the-variants.{All, Falling, Rising}
-use Rattle.vee.specs.Tables.{Table, bias, none, half, side, room, at, Best, Passed, Closed, Within, Near}
+use Rattle.vee.specs.Tables.{bias, none, half, side, room, at, Best, Passed, Closed, Within, Near}
 use Rattle.plan.specs.Limits.{farthest}
 
 -- the two entries of a way by a point can be added

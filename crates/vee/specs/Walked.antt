@@ -2,14 +2,13 @@
 -- Assumes nothing.
 use mathlib.Core.Path.{_≡_}
 use mathlib.Core.List.{List, [], _∷_}
-use Prim.Native.Nat.{ℕ, zero, suc, _+_, _-_, _*_, _<_, _≤_}
+use Prim.Native.Nat.{ℕ, zero, suc, _+_, _-_, _<_, _≤_}
 use Rattle.network.specs.Passing.{Cycle, Good}
 use Rattle.vee.specs.declared.Answer.{Answer}
 use Rattle.vee.specs.declared.Answer.the-variants as answer
 use Rattle.vee.specs.Judging.{FirstBad}
-use lib.ListN.{length}
 use Rattle.plan.specs.Limits.{farthest, mostRecords}
-use Rattle.vee.specs.Sheet.{SheetReady, SheetEdge, firstAt, secondAt, overAt, sheetRoom}
+use Rattle.vee.specs.Sheet.{SheetReady, SheetEdge, firstAt, secondAt, overAt}
 use Rattle.vee.specs.PlanTest.{Span, projections, many, mostProjections, Found}
 
 pub record JudgeReady (s w : List ℕ) (m n i : ℕ) : Type 0 where
@@ -46,7 +45,6 @@ Walked s w m past ahead i r = Found (λ w. SheetEdge s w m) i (projections (span
 
 -- the k rows before row past are links with a duration at least
 pub record RowsReady (s : List ℕ) (past k : ℕ) : Type 0 where
-  pub long : length s ≡ sheetRoom
   pub before : k ≤ past
   pub rows : past ≤ mostRecords
   pub some : (q : ℕ) → q < past → past ≤ q + k → firstAt s q ≤ secondAt s q

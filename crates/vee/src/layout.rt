@@ -6,7 +6,8 @@ ghost use Rattle.plan.specs.Choice.{if_then_else_};
 ghost use Rattle.plan.specs.APlan.{recordsOf, linkTo};
 ghost use Rattle.plan.specs.Limits.{mostRecords};
 ghost use Rattle.vee.specs.Sheet.{sheetRoom};
-ghost use Rattle.vee.specs.Layout.{rowOf, Written, LaidOut};
+ghost use Rattle.vee.specs.Layout.{rowOf, stored, LaidOut};
+use crate::sheet::Row;
 use crate::sheet::SHEET;
 use crate::sheet::WIDTH;
 use plan::Found;
@@ -16,16 +17,6 @@ use plan::Record;
 use plan::WAIT;
 use plan::link_to;
 use plan::split;
-
-// One row of a sheet.
-pub(crate) struct Row {
-    pub(crate) kind: u64,
-    pub(crate) from: u64,
-    pub(crate) to: u64,
-    pub(crate) first: u64,
-    pub(crate) second: u64,
-    pub(crate) over: u64,
-}
 
 fn byte(x: u8) -> u64
     ensures { λ r. ⌜ r ≡ x ⌝ }
@@ -82,8 +73,8 @@ fn row_of(plan: Plan, r: Record) -> Row
 
 // Row `q` of the sheet.
 fn write_row(sheet: &mut [u64; SHEET], q: usize, row: Row)
-    requires { ⌜ (q < mostRecords) × (length (now sheet) ≡ sheetRoom) ⌝ }
-    ensures { λ _. ⌜ Written q row (now (sheet .entry)) (now (sheet .exit)) ⌝ }
+    requires { ⌜ q < mostRecords ⌝ }
+    ensures { λ _. ⌜ now (sheet .exit) ≡ stored (now (sheet .entry)) q row ⌝ }
 {
     let at = q * WIDTH;
     sheet[at] = row.kind;

@@ -2,7 +2,8 @@
 // at some durations.
 ghost use mathlib.Core.Path.{_≡_};
 ghost use Prim.Native.Nat.{_+_, _<_, min};
-ghost use Rattle.vee.specs.Sheet.{SheetReady, Drawing};
+ghost use Rattle.plan.specs.Limits.{mostRecords};
+ghost use Rattle.vee.specs.Sheet.{SheetReady, Drawing, rowAt};
 ghost use Rattle.vee.specs.Filled.{PutReady, Put, LayReady, Filled};
 use crate::table::Part;
 use crate::table::ROOM;
@@ -16,6 +17,15 @@ use plan::ORDINARY;
 use plan::WAIT;
 
 // A row has the record's kind, the points that it joins, from and to, its two numbers, and its second point.
+pub(crate) struct Row {
+    pub(crate) kind: u64,
+    pub(crate) from: u64,
+    pub(crate) to: u64,
+    pub(crate) first: u64,
+    pub(crate) second: u64,
+    pub(crate) over: u64,
+}
+
 pub(crate) const WIDTH: usize = 6;
 
 pub(crate) const SHEET: usize = WIDTH * MOST_RECORDS;
@@ -64,6 +74,22 @@ fn put(
     }
 }
 
+// Row `q` of the sheet.
+pub(crate) fn row_at(sheet: &[u64; SHEET], q: usize) -> Row
+    requires { ⌜ q < mostRecords ⌝ }
+    ensures { λ r. ⌜ r ≡ rowAt (now (sheet .entry)) q ⌝ }
+{
+    let at = q * WIDTH;
+    Row {
+        kind: sheet[at],
+        from: sheet[at + 1],
+        to: sheet[at + 2],
+        first: sheet[at + 3],
+        second: sheet[at + 4],
+        over: sheet[at + 5],
+    }
+}
+
 // Offers the edges of row `q` of the sheet at the durations.
 fn lay(
     t: &mut [u64; ROOM],
@@ -76,15 +102,18 @@ fn lay(
     requires { ⌜ LayReady part (now sheet) (now durations) n q (now t) ⌝ }
     ensures { λ _. ⌜ Drawing part (now (sheet .entry)) (now (durations .entry)) n (q + 1) (now (t .exit)) ⌝ }
 {
-    let at = q * WIDTH;
-    let kind = sheet[at];
-    let from = index(sheet[at + 1]);
-    let to = index(sheet[at + 2]);
-    let first = sheet[at + 3];
-    let second = sheet[at + 4];
-    let over = index(sheet[at + 5]);
-    let p = durations[over];
-    put(&mut *t, part, kind, from, to, first, second, p);
+    let row = row_at(sheet, q);
+    let p = durations[index(row.over)];
+    put(
+        &mut *t,
+        part,
+        row.kind,
+        index(row.from),
+        index(row.to),
+        row.first,
+        row.second,
+        p,
+    );
 }
 
 // The table of the edges of the first `m` rows that are of the part.

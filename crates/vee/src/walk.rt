@@ -9,9 +9,9 @@ use crate::Answer;
 use crate::pairs::Pair;
 use crate::pairs::first_pair;
 use crate::sheet::SHEET;
-use crate::sheet::WIDTH;
 use crate::sheet::fill;
 use crate::sheet::index;
+use crate::sheet::row_at;
 use crate::table::Part;
 use crate::table::ROOM;
 use crate::table::SIDE;
@@ -88,10 +88,10 @@ pub(crate) fn walk(
         );
         return judged;
     }
-    let at = (past - ahead) * WIDTH;
-    let over = index(sheet[at + 5]);
-    let longest = sheet[at + 4];
-    let mut p = sheet[at + 3];
+    let row = row_at(sheet, past - ahead);
+    let over = index(row.over);
+    let longest = row.second;
+    let mut p = row.first;
     let mut next = number;
     while p <= longest {
         let chosen = lasting(durations, over, p);
@@ -124,8 +124,8 @@ pub(crate) fn projections(sheet: &[u64; SHEET], past: usize, links: usize) -> u6
 {
     let mut total: u64 = 1;
     for k in 0..links {
-        let at = (past - (k + 1)) * WIDTH;
-        total = (sheet[at + 4] + 1 - sheet[at + 3]) * total;
+        let row = row_at(sheet, past - (k + 1));
+        total = (row.second + 1 - row.first) * total;
         if MOST_PROJECTIONS < total {
             return total;
         }

@@ -105,6 +105,20 @@ fn inside() {
     answer(&bytes[..n]);
 }
 
+// 32 points, 8 links, 256 ordinary records and 64 waits at 4,096 projections: no plan is larger.
+fn largest() {
+    let mut bytes = [0u8; 5760];
+    let n = io::read_full(0, &mut bytes);
+    answer(&bytes[..n]);
+}
+
+// The same plan with the waits of one point a minute shorter: it fails at projection 3,968.
+fn largest_too_short() {
+    let mut bytes = [0u8; 5760];
+    let n = io::read_full(0, &mut bytes);
+    answer(&bytes[..n]);
+}
+
 fn main() {
     haul();
     haul_without_wait();
@@ -115,4 +129,6 @@ fn main() {
     no_links();
     full();
     inside();
+    largest();
+    largest_too_short();
 }

@@ -30,7 +30,7 @@ row-of-requires : tie.Need-row-of-requires Inv-loop μ-loop
 row-of-requires c κs = search needs
 
 write-row-requires : tie.Need-write-row-requires Inv-loop μ-loop
-write-row-requires c κs = (omega arith, c .before .before .before .before .loop .inv .1 .long)
+write-row-requires c κs = omega arith
 
 add-q : tie.Need-add-q Inv-loop μ-loop
 add-q c = omega arith
@@ -39,7 +39,7 @@ loop-less : tie.Need-loop-less Inv-loop μ-loop
 loop-less c = omega arith
 
 loop-again : tie.Need-loop-again Inv-loop μ-loop
-loop-again c = (omega arith, turn (c .before .before .before .before .before .loop .inv .1) (laid-row _ _ (c .before .before .before .before .loop-test .taken) (c .before .row-of .ensures) (c .write-row .ensures)))
+loop-again c = (omega arith, turn (c .before .before .before .before .before .loop .inv .1) (laid-row _ _ (c .before .before .before .before .before .before .pre .0) (c .before .before .before .before .loop-test .taken) (c .before .before .before .before .before .loop .inv .1 .long) (c .before .row-of .ensures) (c .write-row .ensures)))
 
 returns : tie.Need-returns Inv-loop μ-loop
 returns c = ended (records-in _ (rw length-map at (c .before .before .good .0 .1 .1 .1 .0 .1 .0 .1)) (c .before .before .pre .0) (c .loop-test .left)) (c .before .loop .inv .1)

@@ -13,6 +13,7 @@ use Rattle.vee.proofs.walk.walk.Reads as walk
 use Rattle.vee.proofs.walk.walk.Kinds as walk-kinds
 use Rattle.vee.proofs.walk.+walk.Lts-walk as walk-lts
 use Rattle.vee.proofs.sheet.index.Reads as index-reads
+use Rattle.vee.proofs.sheet.row_at.Reads as row-at-reads
 use Rattle.vee.proofs.walk.judge.Reads as judge-reads
 use Rattle.vee.proofs.walk.lasting.Reads as lasting-reads
 use Rattle.vee.proofs.walk.+walk.{statement}
@@ -34,110 +35,74 @@ abbrev walk-below : ℕ → In 4 walk-kinds.ps
 walk-below t = and 4 walk-kinds.ps (falls 4 walk-kinds.ps _<_ μ-walk t) walk.Pre
 
 abbrev walk-Inv-loop : walk-lts.InvT-loop
-walk-Inv-loop ahead number sheet m n past all₀ falls₀ rises₀ durations at over longest p₀ next₀ all falls rises p next = Turning sheet durations m n past ahead number p next
+walk-Inv-loop ahead number sheet m n past all₀ falls₀ rises₀ durations over longest p₀ next₀ all falls rises p next = Turning sheet durations m n past ahead number p next
 
 abbrev walk-μ-loop : walk-lts.MeasureT-loop
-walk-μ-loop ahead number sheet m n past all₀ falls₀ rises₀ durations at over longest p₀ next₀ all falls rises p next = suc longest - p
+walk-μ-loop ahead number sheet m n past all₀ falls₀ rises₀ durations over longest p₀ next₀ all falls rises p next = suc longest - p
 
-walk-judge-requires : (t : ℕ) → walk-lts.Need-judge-requires (judge-reads.Asked, judge-reads.Learnt, index-reads.Asked, index-reads.Learnt, lasting-reads.Asked, lasting-reads.Learnt, walk-below t, walk.Post) (walk-at t) walk.Post walk-Inv-loop walk-μ-loop
+walk-judge-requires : (t : ℕ) → walk-lts.Need-judge-requires (judge-reads.Asked, judge-reads.Learnt, row-at-reads.Asked, row-at-reads.Learnt, index-reads.Asked, index-reads.Learnt, lasting-reads.Asked, lasting-reads.Learnt, walk-below t, walk.Post) (walk-at t) walk.Post walk-Inv-loop walk-μ-loop
 walk-judge-requires t c κs = may-judge _ (c .before .before .before .before .if1 .taken) (c .before .before .before .before .before .pre .1)
 
-walk-returns : (t : ℕ) → walk-lts.Need-returns (judge-reads.Asked, judge-reads.Learnt, index-reads.Asked, index-reads.Learnt, lasting-reads.Asked, lasting-reads.Learnt, walk-below t, walk.Post) (walk-at t) walk.Post walk-Inv-loop walk-μ-loop
+walk-returns : (t : ℕ) → walk-lts.Need-returns (judge-reads.Asked, judge-reads.Learnt, row-at-reads.Asked, row-at-reads.Learnt, index-reads.Asked, index-reads.Learnt, lasting-reads.Asked, lasting-reads.Learnt, walk-below t, walk.Post) (walk-at t) walk.Post walk-Inv-loop walk-μ-loop
 walk-returns t c = last-one _ _ (c .before .before .before .before .before .if1 .taken) (c .judge .ensures)
 
-walk-sub-at : (t : ℕ) → walk-lts.Need-sub-at (judge-reads.Asked, judge-reads.Learnt, index-reads.Asked, index-reads.Learnt, lasting-reads.Asked, lasting-reads.Learnt, walk-below t, walk.Post) (walk-at t) walk.Post walk-Inv-loop walk-μ-loop
-walk-sub-at t c = omega (arith, c .before .pre .1 .before, c .before .pre .1 .rows, c .before .pre .1 .ready .rows, c .before .pre .1 .ready .long)
+walk-sub-row-at : (t : ℕ) → walk-lts.Need-sub-row-at (judge-reads.Asked, judge-reads.Learnt, row-at-reads.Asked, row-at-reads.Learnt, index-reads.Asked, index-reads.Learnt, lasting-reads.Asked, lasting-reads.Learnt, walk-below t, walk.Post) (walk-at t) walk.Post walk-Inv-loop walk-μ-loop
+walk-sub-row-at t c = omega (arith, c .before .pre .1 .before)
 
-walk-mul-at : (t : ℕ) → walk-lts.Need-mul-at (judge-reads.Asked, judge-reads.Learnt, index-reads.Asked, index-reads.Learnt, lasting-reads.Asked, lasting-reads.Learnt, walk-below t, walk.Post) (walk-at t) walk.Post walk-Inv-loop walk-μ-loop
-walk-mul-at t c = omega (arith, c .before .pre .1 .before, c .before .pre .1 .rows, c .before .pre .1 .ready .rows, c .before .pre .1 .ready .long)
+walk-row-at-requires : (t : ℕ) → walk-lts.Need-row-at-requires (judge-reads.Asked, judge-reads.Learnt, row-at-reads.Asked, row-at-reads.Learnt, index-reads.Asked, index-reads.Learnt, lasting-reads.Asked, lasting-reads.Learnt, walk-below t, walk.Post) (walk-at t) walk.Post walk-Inv-loop walk-μ-loop
+walk-row-at-requires t c κs = omega (arith, c .before .pre .1 .before, c .before .pre .1 .rows, c .before .pre .1 .ready .rows)
 
-walk-add-index : (t : ℕ) → walk-lts.Need-add-index (judge-reads.Asked, judge-reads.Learnt, index-reads.Asked, index-reads.Learnt, lasting-reads.Asked, lasting-reads.Learnt, walk-below t, walk.Post) (walk-at t) walk.Post walk-Inv-loop walk-μ-loop
-walk-add-index t c = omega (arith, c .before .pre .1 .before, c .before .pre .1 .rows, c .before .pre .1 .ready .rows, c .before .pre .1 .ready .long)
-
-walk-mul-index : (t : ℕ) → walk-lts.Need-mul-index (judge-reads.Asked, judge-reads.Learnt, index-reads.Asked, index-reads.Learnt, lasting-reads.Asked, lasting-reads.Learnt, walk-below t, walk.Post) (walk-at t) walk.Post walk-Inv-loop walk-μ-loop
-walk-mul-index t c = omega (arith, c .before .pre .1 .before, c .before .pre .1 .rows, c .before .pre .1 .ready .rows, c .before .pre .1 .ready .long)
-
-walk-element-copy-out-index : (t : ℕ) → walk-lts.Need-element-copy-out-index (judge-reads.Asked, judge-reads.Learnt, index-reads.Asked, index-reads.Learnt, lasting-reads.Asked, lasting-reads.Learnt, walk-below t, walk.Post) (walk-at t) walk.Post walk-Inv-loop walk-μ-loop
-walk-element-copy-out-index t c = omega (arith, c .before .pre .1 .before, c .before .pre .1 .rows, c .before .pre .1 .ready .rows, c .before .pre .1 .ready .long)
-
-walk-index-requires : (t : ℕ) → walk-lts.Need-index-requires (judge-reads.Asked, judge-reads.Learnt, index-reads.Asked, index-reads.Learnt, lasting-reads.Asked, lasting-reads.Learnt, walk-below t, walk.Post) (walk-at t) walk.Post walk-Inv-loop walk-μ-loop
+walk-index-requires : (t : ℕ) → walk-lts.Need-index-requires (judge-reads.Asked, judge-reads.Learnt, row-at-reads.Asked, row-at-reads.Learnt, index-reads.Asked, index-reads.Learnt, lasting-reads.Asked, lasting-reads.Learnt, walk-below t, walk.Post) (walk-at t) walk.Post walk-Inv-loop walk-μ-loop
 walk-index-requires t c κs = search needs
 
-walk-add-longest : (t : ℕ) → walk-lts.Need-add-longest (judge-reads.Asked, judge-reads.Learnt, index-reads.Asked, index-reads.Learnt, lasting-reads.Asked, lasting-reads.Learnt, walk-below t, walk.Post) (walk-at t) walk.Post walk-Inv-loop walk-μ-loop
-walk-add-longest t c = omega (arith, c .before .before .before .pre .1 .before, c .before .before .before .pre .1 .rows, c .before .before .before .pre .1 .ready .rows, c .before .before .before .pre .1 .ready .long)
+walk-loop-holds : (t : ℕ) → walk-lts.Need-loop-holds (judge-reads.Asked, judge-reads.Learnt, row-at-reads.Asked, row-at-reads.Learnt, index-reads.Asked, index-reads.Learnt, lasting-reads.Asked, lasting-reads.Learnt, walk-below t, walk.Post) (walk-at t) walk.Post walk-Inv-loop walk-μ-loop
+walk-loop-holds t c = begins (c .before .before .before .pre .1) (c .before .before .if1 .left) (c .before .row-at .ensures)
 
-walk-mul-longest : (t : ℕ) → walk-lts.Need-mul-longest (judge-reads.Asked, judge-reads.Learnt, index-reads.Asked, index-reads.Learnt, lasting-reads.Asked, lasting-reads.Learnt, walk-below t, walk.Post) (walk-at t) walk.Post walk-Inv-loop walk-μ-loop
-walk-mul-longest t c = omega (arith, c .before .before .before .pre .1 .before, c .before .before .before .pre .1 .rows, c .before .before .before .pre .1 .ready .rows, c .before .before .before .pre .1 .ready .long)
+walk-lasting-requires : (t : ℕ) → walk-lts.Need-lasting-requires (judge-reads.Asked, judge-reads.Learnt, row-at-reads.Asked, row-at-reads.Learnt, index-reads.Asked, index-reads.Learnt, lasting-reads.Asked, lasting-reads.Learnt, walk-below t, walk.Post) (walk-at t) walk.Post walk-Inv-loop walk-μ-loop
+walk-lasting-requires t c κs = over-in (c .before .before .before .row-at .ensures) (c .before .before .index .ensures) (c .before .loop .inv)
 
-walk-element-copy-out-longest : (t : ℕ) → walk-lts.Need-element-copy-out-longest (judge-reads.Asked, judge-reads.Learnt, index-reads.Asked, index-reads.Learnt, lasting-reads.Asked, lasting-reads.Learnt, walk-below t, walk.Post) (walk-at t) walk.Post walk-Inv-loop walk-μ-loop
-walk-element-copy-out-longest t c = omega (arith, c .before .before .before .pre .1 .before, c .before .before .before .pre .1 .rows, c .before .before .before .pre .1 .ready .rows, c .before .before .before .pre .1 .ready .long)
-
-walk-add-p : (t : ℕ) → walk-lts.Need-add-p (judge-reads.Asked, judge-reads.Learnt, index-reads.Asked, index-reads.Learnt, lasting-reads.Asked, lasting-reads.Learnt, walk-below t, walk.Post) (walk-at t) walk.Post walk-Inv-loop walk-μ-loop
-walk-add-p t c = omega (arith, c .before .before .before .before .pre .1 .before, c .before .before .before .before .pre .1 .rows, c .before .before .before .before .pre .1 .ready .rows, c .before .before .before .before .pre .1 .ready .long)
-
-walk-mul-p : (t : ℕ) → walk-lts.Need-mul-p (judge-reads.Asked, judge-reads.Learnt, index-reads.Asked, index-reads.Learnt, lasting-reads.Asked, lasting-reads.Learnt, walk-below t, walk.Post) (walk-at t) walk.Post walk-Inv-loop walk-μ-loop
-walk-mul-p t c = omega (arith, c .before .before .before .before .pre .1 .before, c .before .before .before .before .pre .1 .rows, c .before .before .before .before .pre .1 .ready .rows, c .before .before .before .before .pre .1 .ready .long)
-
-walk-element-copy-out-p : (t : ℕ) → walk-lts.Need-element-copy-out-p (judge-reads.Asked, judge-reads.Learnt, index-reads.Asked, index-reads.Learnt, lasting-reads.Asked, lasting-reads.Learnt, walk-below t, walk.Post) (walk-at t) walk.Post walk-Inv-loop walk-μ-loop
-walk-element-copy-out-p t c = omega (arith, c .before .before .before .before .pre .1 .before, c .before .before .before .before .pre .1 .rows, c .before .before .before .before .pre .1 .ready .rows, c .before .before .before .before .pre .1 .ready .long)
-
-walk-loop-holds : (t : ℕ) → walk-lts.Need-loop-holds (judge-reads.Asked, judge-reads.Learnt, index-reads.Asked, index-reads.Learnt, lasting-reads.Asked, lasting-reads.Learnt, walk-below t, walk.Post) (walk-at t) walk.Post walk-Inv-loop walk-μ-loop
-walk-loop-holds t c = begins (c .before .before .before .before .before .pre .1) (c .before .before .before .before .if1 .left)
-
-walk-lasting-requires : (t : ℕ) → walk-lts.Need-lasting-requires (judge-reads.Asked, judge-reads.Learnt, index-reads.Asked, index-reads.Learnt, lasting-reads.Asked, lasting-reads.Learnt, walk-below t, walk.Post) (walk-at t) walk.Post walk-Inv-loop walk-μ-loop
-walk-lasting-requires t c κs = omega (arith, c .before .before .before .before .index .ensures, over-in (c .before .loop .inv))
-
-walk-sub-walk : (t : ℕ) → walk-lts.Need-sub-walk (judge-reads.Asked, judge-reads.Learnt, index-reads.Asked, index-reads.Learnt, lasting-reads.Asked, lasting-reads.Learnt, walk-below t, walk.Post) (walk-at t) walk.Post walk-Inv-loop walk-μ-loop
+walk-sub-walk : (t : ℕ) → walk-lts.Need-sub-walk (judge-reads.Asked, judge-reads.Learnt, row-at-reads.Asked, row-at-reads.Learnt, index-reads.Asked, index-reads.Learnt, lasting-reads.Asked, lasting-reads.Learnt, walk-below t, walk.Post) (walk-at t) walk.Post walk-Inv-loop walk-μ-loop
 walk-sub-walk t c = omega (arith, c .before .before .loop .inv .more)
 
-walk-walk-requires : (t : ℕ) → walk-lts.Need-walk-requires (judge-reads.Asked, judge-reads.Learnt, index-reads.Asked, index-reads.Learnt, lasting-reads.Asked, lasting-reads.Learnt, walk-below t, walk.Post) (walk-at t) walk.Post walk-Inv-loop walk-μ-loop
-walk-walk-requires t c κs = (omega (arith, c .before .before .before .before .before .before .before .before .before .before .before .pre .0, c .before .before .before .before .before .loop .inv .more), may-walk (c .before .before .before .before .before .loop .inv) (c .before .before .before .before .loop-test .taken) (c .before .before .before .before .before .before .before .before .index .ensures) (c .before .before .before .lasting .ensures))
+walk-walk-requires : (t : ℕ) → walk-lts.Need-walk-requires (judge-reads.Asked, judge-reads.Learnt, row-at-reads.Asked, row-at-reads.Learnt, index-reads.Asked, index-reads.Learnt, lasting-reads.Asked, lasting-reads.Learnt, walk-below t, walk.Post) (walk-at t) walk.Post walk-Inv-loop walk-μ-loop
+walk-walk-requires t c κs = (omega (arith, c .before .before .before .before .before .before .before .before .before .pre .0, c .before .before .before .before .before .loop .inv .more), may-walk (c .before .before .before .before .before .loop .inv) (c .before .before .before .before .before .before .before .row-at .ensures) (c .before .before .before .before .loop-test .taken) (c .before .before .before .before .before .before .index .ensures) (c .before .before .before .lasting .ensures))
 
-walk-enum-known-found : (t : ℕ) → walk-lts.Need-enum-known-found (judge-reads.Asked, judge-reads.Learnt, index-reads.Asked, index-reads.Learnt, lasting-reads.Asked, lasting-reads.Learnt, walk-below t, walk.Post) (walk-at t) walk.Post walk-Inv-loop walk-μ-loop
+walk-enum-known-found : (t : ℕ) → walk-lts.Need-enum-known-found (judge-reads.Asked, judge-reads.Learnt, row-at-reads.Asked, row-at-reads.Learnt, index-reads.Asked, index-reads.Learnt, lasting-reads.Asked, lasting-reads.Learnt, walk-below t, walk.Post) (walk-at t) walk.Post walk-Inv-loop walk-μ-loop
 walk-enum-known-found t c = search needs
 
-walk-returns-2 : (t : ℕ) → walk-lts.Need-returns-2 (judge-reads.Asked, judge-reads.Learnt, index-reads.Asked, index-reads.Learnt, lasting-reads.Asked, lasting-reads.Learnt, walk-below t, walk.Post) (walk-at t) walk.Post walk-Inv-loop walk-μ-loop
-walk-returns-2 t c = walked-off (c .before .before .before .before .before .before .before .loop .inv) (c .before .before .before .before .before .before .loop-test .taken) (c .before .before .before .before .before .before .before .before .before .before .index .ensures) (c .before .before .before .before .before .lasting .ensures) (c .before .walk .result) (λ j e. not-yes (rw e at (c .match .keys2))) (c .before .walk .ensures)
+walk-returns-2 : (t : ℕ) → walk-lts.Need-returns-2 (judge-reads.Asked, judge-reads.Learnt, row-at-reads.Asked, row-at-reads.Learnt, index-reads.Asked, index-reads.Learnt, lasting-reads.Asked, lasting-reads.Learnt, walk-below t, walk.Post) (walk-at t) walk.Post walk-Inv-loop walk-μ-loop
+walk-returns-2 t c = walked-off (c .before .before .before .before .before .before .before .loop .inv) (c .before .before .before .before .before .before .before .before .before .row-at .ensures) (c .before .before .before .before .before .before .loop-test .taken) (c .before .before .before .before .before .before .before .before .index .ensures) (c .before .before .before .before .before .lasting .ensures) (c .before .walk .result) (λ j e. not-yes (rw e at (c .match .keys2))) (c .before .walk .ensures)
 
-walk-add-p-2 : (t : ℕ) → walk-lts.Need-add-p-2 (judge-reads.Asked, judge-reads.Learnt, index-reads.Asked, index-reads.Learnt, lasting-reads.Asked, lasting-reads.Learnt, walk-below t, walk.Post) (walk-at t) walk.Post walk-Inv-loop walk-μ-loop
-walk-add-p-2 t c = omega (arith, c .before .before .before .before .before .before .before .before .before .loop .inv .high, last-fits (c .before .before .before .before .before .before .before .before .before .loop .inv))
+walk-add-p : (t : ℕ) → walk-lts.Need-add-p (judge-reads.Asked, judge-reads.Learnt, row-at-reads.Asked, row-at-reads.Learnt, index-reads.Asked, index-reads.Learnt, lasting-reads.Asked, lasting-reads.Learnt, walk-below t, walk.Post) (walk-at t) walk.Post walk-Inv-loop walk-μ-loop
+walk-add-p t c = omega (arith, c .before .before .before .before .before .before .before .before .before .loop .inv .high, last-fits (c .before .before .before .before .before .before .before .before .before .loop .inv))
 
-walk-loop-less : (t : ℕ) → walk-lts.Need-loop-less (judge-reads.Asked, judge-reads.Learnt, index-reads.Asked, index-reads.Learnt, lasting-reads.Asked, lasting-reads.Learnt, walk-below t, walk.Post) (walk-at t) walk.Post walk-Inv-loop walk-μ-loop
+walk-loop-less : (t : ℕ) → walk-lts.Need-loop-less (judge-reads.Asked, judge-reads.Learnt, row-at-reads.Asked, row-at-reads.Learnt, index-reads.Asked, index-reads.Learnt, lasting-reads.Asked, lasting-reads.Learnt, walk-below t, walk.Post) (walk-at t) walk.Post walk-Inv-loop walk-μ-loop
 walk-loop-less t c = omega arith
 
-walk-loop-again : (t : ℕ) → walk-lts.Need-loop-again (judge-reads.Asked, judge-reads.Learnt, index-reads.Asked, index-reads.Learnt, lasting-reads.Asked, lasting-reads.Learnt, walk-below t, walk.Post) (walk-at t) walk.Post walk-Inv-loop walk-μ-loop
-walk-loop-again t c = walked-on (c .before .before .before .before .before .before .before .before .before .loop .inv) (c .before .before .before .before .before .before .before .before .loop-test .taken) (c .before .before .before .before .before .before .before .before .before .before .before .before .index .ensures) (c .before .before .before .before .before .before .before .lasting .ensures) (c .before .found .given .1) (c .before .before .before .walk .ensures)
+walk-loop-again : (t : ℕ) → walk-lts.Need-loop-again (judge-reads.Asked, judge-reads.Learnt, row-at-reads.Asked, row-at-reads.Learnt, index-reads.Asked, index-reads.Learnt, lasting-reads.Asked, lasting-reads.Learnt, walk-below t, walk.Post) (walk-at t) walk.Post walk-Inv-loop walk-μ-loop
+walk-loop-again t c = walked-on (c .before .before .before .before .before .before .before .before .before .loop .inv) (c .before .before .before .before .before .before .before .before .before .before .before .row-at .ensures) (c .before .before .before .before .before .before .before .before .loop-test .taken) (c .before .before .before .before .before .before .before .before .before .before .index .ensures) (c .before .before .before .before .before .before .before .lasting .ensures) (c .before .found .given .1) (c .before .before .before .walk .ensures)
 
-walk-returns-3 : (t : ℕ) → walk-lts.Need-returns-3 (judge-reads.Asked, judge-reads.Learnt, index-reads.Asked, index-reads.Learnt, lasting-reads.Asked, lasting-reads.Learnt, walk-below t, walk.Post) (walk-at t) walk.Post walk-Inv-loop walk-μ-loop
-walk-returns-3 t c = ends (c .before .loop .inv) (c .loop-test .left)
+walk-returns-3 : (t : ℕ) → walk-lts.Need-returns-3 (judge-reads.Asked, judge-reads.Learnt, row-at-reads.Asked, row-at-reads.Learnt, index-reads.Asked, index-reads.Learnt, lasting-reads.Asked, lasting-reads.Learnt, walk-below t, walk.Post) (walk-at t) walk.Post walk-Inv-loop walk-μ-loop
+walk-returns-3 t c = ends (c .before .before .before .row-at .ensures) (c .before .loop .inv) (c .loop-test .left)
 
 pub +walk-spec : {M : Type 1} → statement M
-+walk-spec = close μ-walk λ t. walk-lts.spec (judge-reads.Asked, judge-reads.Learnt, index-reads.Asked, index-reads.Learnt, lasting-reads.Asked, lasting-reads.Learnt, walk-below t, walk.Post)
++walk-spec = close μ-walk λ t. walk-lts.spec (judge-reads.Asked, judge-reads.Learnt, row-at-reads.Asked, row-at-reads.Learnt, index-reads.Asked, index-reads.Learnt, lasting-reads.Asked, lasting-reads.Learnt, walk-below t, walk.Post)
     (walk-at t)
     walk.Post
     walk-Inv-loop
     walk-μ-loop
     (walk-judge-requires t)
     (walk-returns t)
-    (walk-sub-at t)
-    (walk-mul-at t)
-    (walk-add-index t)
-    (walk-mul-index t)
-    (walk-element-copy-out-index t)
+    (walk-sub-row-at t)
+    (walk-row-at-requires t)
     (walk-index-requires t)
-    (walk-add-longest t)
-    (walk-mul-longest t)
-    (walk-element-copy-out-longest t)
-    (walk-add-p t)
-    (walk-mul-p t)
-    (walk-element-copy-out-p t)
     (walk-loop-holds t)
     (walk-lasting-requires t)
     (walk-sub-walk t)
     (walk-walk-requires t)
     (walk-enum-known-found t)
     (walk-returns-2 t)
-    (walk-add-p-2 t)
+    (walk-add-p t)
     (walk-loop-less t)
     (walk-loop-again t)
     (walk-returns-3 t)

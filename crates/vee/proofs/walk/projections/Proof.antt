@@ -15,44 +15,26 @@ abbrev μ-loop : tie.MeasureT-loop
 loop-holds : tie.Need-loop-holds Inv-loop μ-loop
 loop-holds c = none-counted (c .pre)
 
-add-at : tie.Need-add-at Inv-loop μ-loop
-add-at c = omega (arith, c .before .before .pre .before, c .before .before .pre .rows, c .before .before .pre .long)
+add-row-at : tie.Need-add-row-at Inv-loop μ-loop
+add-row-at c = omega (arith, c .before .before .pre .before, c .before .before .pre .rows)
 
-sub-at : tie.Need-sub-at Inv-loop μ-loop
-sub-at c = omega (arith, c .before .before .pre .before, c .before .before .pre .rows, c .before .before .pre .long)
+sub-row-at : tie.Need-sub-row-at Inv-loop μ-loop
+sub-row-at c = omega (arith, c .before .before .pre .before, c .before .before .pre .rows)
 
-mul-at : tie.Need-mul-at Inv-loop μ-loop
-mul-at c = omega (arith, c .before .before .pre .before, c .before .before .pre .rows, c .before .before .pre .long)
+row-at-requires : tie.Need-row-at-requires Inv-loop μ-loop
+row-at-requires c κs = omega (arith, c .before .before .pre .before, c .before .before .pre .rows)
 
 add-total : tie.Need-add-total Inv-loop μ-loop
-add-total c = omega (arith, c .before .before .pre .before, c .before .before .pre .rows, c .before .before .pre .long)
-
-mul-total : tie.Need-mul-total Inv-loop μ-loop
-mul-total c = omega (arith, c .before .before .pre .before, c .before .before .pre .rows, c .before .before .pre .long)
-
-element-copy-out-total : tie.Need-element-copy-out-total Inv-loop μ-loop
-element-copy-out-total c = omega (arith, c .before .before .pre .before, c .before .before .pre .rows, c .before .before .pre .long)
-
-add-total-2 : tie.Need-add-total-2 Inv-loop μ-loop
-add-total-2 c = omega (arith, last-in (c .before .before .loop .inv) (c .before .loop-test .taken))
-
-add-total-3 : tie.Need-add-total-3 Inv-loop μ-loop
-add-total-3 c = omega (arith, c .before .before .before .pre .before, c .before .before .before .pre .rows, c .before .before .before .pre .long)
-
-mul-total-2 : tie.Need-mul-total-2 Inv-loop μ-loop
-mul-total-2 c = omega (arith, c .before .before .before .pre .before, c .before .before .before .pre .rows, c .before .before .before .pre .long)
-
-element-copy-out-total-2 : tie.Need-element-copy-out-total-2 Inv-loop μ-loop
-element-copy-out-total-2 c = omega (arith, c .before .before .before .pre .before, c .before .before .before .pre .rows, c .before .before .before .pre .long)
+add-total c = omega (arith, last-in (c .before .before .before .loop .inv) (c .before .row-at .ensures) (c .before .before .loop-test .taken))
 
 sub-total : tie.Need-sub-total Inv-loop μ-loop
-sub-total c = omega (arith, last-in (c .before .before .before .loop .inv) (c .before .before .loop-test .taken))
+sub-total c = omega (arith, last-in (c .before .before .before .before .loop .inv) (c .before .before .row-at .ensures) (c .before .before .before .loop-test .taken))
 
-mul-total-3 : tie.Need-mul-total-3 Inv-loop μ-loop
-mul-total-3 c = product-fits (c .before .before .before .loop .inv) (c .before .before .loop-test .taken)
+mul-total : tie.Need-mul-total Inv-loop μ-loop
+mul-total c = product-fits (c .before .before .before .before .loop .inv) (c .before .before .row-at .ensures) (c .before .before .before .loop-test .taken)
 
 returns : tie.Need-returns Inv-loop μ-loop
-returns c = over-many (c .before .before .before .before .loop .inv) (c .before .before .before .loop-test .taken) (c .if1 .taken)
+returns c = over-many (c .before .before .before .before .before .loop .inv) (c .before .before .before .row-at .ensures) (c .before .before .before .before .loop-test .taken) (c .if1 .taken)
 
 add-k : tie.Need-add-k Inv-loop μ-loop
 add-k c = omega arith
@@ -61,7 +43,7 @@ loop-less : tie.Need-loop-less Inv-loop μ-loop
 loop-less c = omega arith
 
 loop-again : tie.Need-loop-again Inv-loop μ-loop
-loop-again c = counted-on (c .before .before .before .before .loop .inv) (c .before .before .before .loop-test .taken) (c .if1 .left)
+loop-again c = counted-on (c .before .before .before .before .before .loop .inv) (c .before .before .before .row-at .ensures) (c .before .before .before .before .loop-test .taken) (c .if1 .left)
 
 returns-2 : tie.Need-returns-2 Inv-loop μ-loop
 returns-2 c = counted-all (c .before .loop .inv) (c .loop-test .left)
@@ -73,18 +55,12 @@ projections-spec =
     Inv-loop
     μ-loop
     loop-holds
-    add-at
-    sub-at
-    mul-at
+    add-row-at
+    sub-row-at
+    row-at-requires
     add-total
-    mul-total
-    element-copy-out-total
-    add-total-2
-    add-total-3
-    mul-total-2
-    element-copy-out-total-2
     sub-total
-    mul-total-3
+    mul-total
     returns
     add-k
     loop-less

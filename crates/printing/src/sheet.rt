@@ -146,7 +146,7 @@ impl Sheet {
         let plan = self.plan;
         let before = self.taken;
         let board = before.board;
-        let taken = board.take(plan, event);
+        let reply = board.take(plan, event);
         Sheet {
             stage: self.stage,
             news: EVENT,
@@ -154,7 +154,7 @@ impl Sheet {
             events: wrapping_add_u64(self.events, 1),
             last: self.events,
             plan: plan,
-            taken: taken,
+            taken: reply,
         }
     }
 

@@ -1,4 +1,4 @@
-//! Compares two printing programs of document 01 on drawn inputs: compare SEED MINUTES THEIRS OURS...
+//! Compares two printing programs of document 01 on drawn inputs: compare PROGRAM SEED MINUTES THEIRS OURS...
 //! Started by compare/run from the folder above.
 
 mod count;
@@ -28,17 +28,18 @@ const KEPT: &str = "compare/kept";
 fn main() -> ExitCode {
     let words: Vec<String> = std::env::args().collect();
     let numbers = match &words[..] {
-        [_, seed, minutes, _, _, ..] => seed.parse().ok().zip(minutes.parse().ok()),
+        [_, _, seed, minutes, _, _, ..] => seed.parse().ok().zip(minutes.parse().ok()),
         _ => None,
     };
     let Some((seed, minutes)) = numbers.filter(|&(_, minutes)| (0.0..=1e6).contains(&minutes))
     else {
-        eprintln!("usage: compare SEED MINUTES THEIRS OURS...");
+        eprintln!("usage: compare PROGRAM SEED MINUTES THEIRS OURS...");
         return ExitCode::from(2);
     };
     let both = Both {
-        ours: words[4..].to_vec(),
-        theirs: words[3].clone(),
+        program: words[1].clone(),
+        ours: words[5..].to_vec(),
+        theirs: words[4].clone(),
         scratch: scratch(0),
     };
     programs::watch();
@@ -81,7 +82,7 @@ struct Shared {
 
 /// Compares until the time is over or a difference is found; is all well?
 fn compare(both: &Both, seed: u64, time: Duration) -> io::Result<bool> {
-    println!("seed {seed}");
+    println!("{}, seed {seed}", both.program);
     let start = Instant::now();
     let shared = Shared {
         seed,
@@ -123,7 +124,7 @@ fn compare(both: &Both, seed: u64, time: Duration) -> io::Result<bool> {
     let rate = compared as f64 / seconds;
     println!("{compared} inputs the same, {seconds:.0} seconds, {rate:.0} a second");
     let count = shared.count.into_inner().expect("no worker fails");
-    let (missing, strange) = count.print();
+    let (missing, strange) = count.print(&both.program);
     for key in &missing {
         println!("never came up: {key}");
     }
@@ -201,8 +202,8 @@ fn tell(both: &Both, seed: u64, found: &Found) -> io::Result<()> {
     show("ours", &ours);
     show("the independent program", &theirs);
     println!(
-        "to see it: diff <(bin/sheet < {file}) <({} < {file})",
-        both.theirs
+        "to see it: diff <(bin/{} < {file}) <({} < {file})",
+        both.program, both.theirs
     );
     Ok(())
 }

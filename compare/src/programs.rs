@@ -31,6 +31,8 @@ pub struct Shown {
 
 #[derive(Clone)]
 pub struct Both {
+    /// What it is: `sheet` or `offers`.
+    pub program: String,
     /// The words that start our program.
     pub ours: Vec<String>,
     /// The independent program.

@@ -3,7 +3,7 @@ use mathlib.Core.Path.{_≡_}
 use mathlib.Core.List.{List, _++_}
 use Prim.Native.Nat.{ℕ, _+_, _≤_}
 use lib.ListN.{length, take}
-use Rattle.text.specs.Lines.{room, lineOf}
+use Rattle.text.specs.Text.{room, lineOf}
 use Rattle.text.specs.declared.Line.{Line}
 
 -- a line's text

@@ -1,49 +1,95 @@
--- Document 01, "The printing program": the text of a line, as the numbers of its ASCII characters. A line is pieces, words
--- and numbers, with single spaces between them and one line feed at its end. Assumes nothing.
-use mathlib.Core.Bool.{cond}
-use mathlib.Core.List.{List, [], _∷_, _++_}
-use Prim.Native.Nat.{ℕ, zero, suc, _+_, _-_, _/_, _%_}
-use lib.Dec.{eqb, ltb}
-use lib.ListN.{length, replicate}
+-- Document 01, "The printing program": each line that the programs print, from what it tells. Assumes nothing.
+use mathlib.Core.List.{List, [], _∷_}
+use Prim.Native.Nat.{ℕ}
+use Rattle.points.specs.Sets.{countOf}
+use Rattle.plan.specs.declared.Plan.{Plan}
+use Rattle.board.specs.Replies.{replyOf}
+use Rattle.board.specs.Verdicts.{verdictOf}
+use Rattle.board.specs.declared.Board.{Board}
+use Rattle.board.specs.declared.Taken.{Taken}
+use Rattle.board.specs.declared.Reply.{Reply}
+use Rattle.board.specs.declared.Place.{Place}
+use Rattle.board.specs.declared.State.{State}
+use Rattle.board.specs.declared.State.the-variants as state
+use Rattle.board.specs.declared.Outcome.{Outcome}
+use Rattle.board.specs.declared.Outcome.the-variants as outcome
+use Rattle.board.specs.declared.Verdict.{Verdict}
+use Rattle.board.specs.declared.Verdict.the-variants as verdict
+use Rattle.vee.specs.declared.Answer.{Answer}
+use Rattle.vee.specs.declared.Answer.the-variants as answer
+use Rattle.text.specs.Words.{planWord, tailWord, endWord, keptWord, brokenWord, stuckWord, openWord, testWord, yesWord, cycleWord, pairWord, eventWord, boardWord, finishedWord, waitingWord, offersWord, pointWord, doneWord, watchedWord, shutWord, heldWord, offeredWord, refusedWord}
+use Rattle.text.specs.Text.{lineOf, textOf}
 use Rattle.text.specs.declared.Line.{Line}
 use Rattle.text.specs.declared.Piece.{Piece}
 use Rattle.text.specs.declared.Piece.the-variants.{Name, Number}
 
--- how long a line may be
-abbrev pub room : ℕ
-room = 128
+-- a line: its first piece and the others
+abbrev pub said : Piece → List Piece → Line
+said p ps = lineOf (textOf p ps)
 
--- the line that has the text ts, zero past its length
-abbrev pub lineOf : List ℕ → Line
-lineOf ts = record { len = length ts; bytes = ts ++ replicate (room - length ts) 0 }
+-- plan NUMBER RECORD: a refused plan
+abbrev pub planLine : ℕ → ℕ → Line
+planLine n i = said (Name planWord) (Number n ∷ Number i ∷ [])
 
--- the last k or fewer decimal digits of n, with no leading zeros
-unfoldable pub digits : ℕ → ℕ → List ℕ
-digits zero n = []
-digits (suc k) n = cond (ltb n 10) [] (digits k (n / 10)) ++ ((48 + n % 10) ∷ [])
+-- EVENT NUMBER CLOCK COUNT: the count is the number of ones in the set of the board handed back
+abbrev pub eventLine : ℕ → Taken → Line
+eventLine k t =
+    said (Number k) (Number (t .number) ∷ Number (t .board .clock) ∷ Number (countOf (t .board .done)) ∷ [])
 
--- the decimal digits of a number of 64 bits, which has at most twenty
-abbrev pub decimal : ℕ → List ℕ
-decimal n = digits 20 n
+-- event K NUMBER
+abbrev pub replyLine : ℕ → ℕ → Line
+replyLine k n = said (Name eventWord) (Number k ∷ Number n ∷ [])
 
--- the first k or fewer letters of a word, whose codes are its digits to the base 256, the first letter lowest
-unfoldable pub spelled : ℕ → ℕ → List ℕ
-spelled zero w = []
-spelled (suc k) w = cond (eqb w 0) [] (w % 256 ∷ spelled k (w / 256))
+-- test yes N, test cycle P, test pair P X Y, test NUMBER
+abbrev pub testLine : Answer → Line
+testLine (answer.Yes n) = said (Name testWord) (Name yesWord ∷ Number n ∷ [])
+testLine (answer.Cycle p) = said (Name testWord) (Name cycleWord ∷ Number p ∷ [])
+testLine (answer.Pair p x y) = said (Name testWord) (Name pairWord ∷ Number p ∷ Number x ∷ Number y ∷ [])
+testLine (answer.Refused n i) = said (Name testWord) (Number n ∷ [])
 
--- the letters of a word of at most eight
-abbrev pub letters : ℕ → List ℕ
-letters w = spelled 8 w
+-- what stands behind the clock and the count of a board
+abbrev pub outcomePieces : Outcome → ℕ → List Piece
+outcomePieces outcome.Finished latest = Name finishedWord ∷ []
+outcomePieces outcome.Stuck latest = Name stuckWord ∷ []
+outcomePieces outcome.Waiting latest = Name waitingWord ∷ []
+outcomePieces outcome.Offers latest = Name offersWord ∷ Number latest ∷ []
+outcomePieces (outcome.Refused n i) latest = Name refusedWord ∷ Number n ∷ []
 
-abbrev pub pieceText : Piece → List ℕ
-pieceText (Name w) = letters w
-pieceText (Number n) = decimal n
+-- board CLOCK COUNT and what the board is: the count is the number of ones in its set
+abbrev pub boardLine : Board → Reply → Line
+boardLine b r =
+    said (Name boardWord) (Number (b .clock) ∷ Number (countOf (b .done)) ∷ outcomePieces (r .outcome) (r .latest))
 
--- pieces after the first, each behind a space
-unfoldable pub moreText : List Piece → List ℕ
-moreText [] = []
-moreText (p ∷ ps) = (32 ∷ pieceText p) ++ moreText ps
+-- what an offer says of a point
+abbrev pub statePieces : State → List Piece
+statePieces (state.Done m) = Name doneWord ∷ Number m ∷ []
+statePieces state.Watched = Name watchedWord ∷ []
+statePieces state.Shut = Name shutWord ∷ []
+statePieces state.Held = Name heldWord ∷ []
+statePieces (state.Offered low) = Name offeredWord ∷ Number low ∷ []
 
--- a whole line
-abbrev pub textOf : Piece → List Piece → List ℕ
-textOf p ps = pieceText p ++ (moreText ps ++ (10 ∷ []))
+-- point I POND and that
+abbrev pub pointLine : ℕ → ℕ → Place → Line
+pointLine i pond p = said (Name pointWord) (Number i ∷ Number pond ∷ statePieces (p .state))
+
+-- tail: an unfinished last record
+abbrev pub tailLine : Line
+tailLine = said (Name tailWord) []
+
+-- end kept, end broken N
+abbrev pub verdictLine : Verdict → Line
+verdictLine verdict.Kept = said (Name endWord) (Name keptWord ∷ [])
+verdictLine (verdict.Broken n) = said (Name endWord) (Name brokenWord ∷ Number n ∷ [])
+verdictLine (verdict.Refused n i) = said (Name endWord) (Name openWord ∷ [])
+
+-- a finished board ends by its verdict; a stuck one is stuck; any other is open
+abbrev pub endFor : Outcome → Verdict → Line
+endFor outcome.Finished v = verdictLine v
+endFor outcome.Stuck v = said (Name endWord) (Name stuckWord ∷ [])
+endFor outcome.Waiting v = said (Name endWord) (Name openWord ∷ [])
+endFor outcome.Offers v = said (Name endWord) (Name openWord ∷ [])
+endFor (outcome.Refused n i) v = said (Name endWord) (Name openWord ∷ [])
+
+-- how a sheet ends
+abbrev pub endLine : Plan → Board → Line
+endLine p b = endFor (replyOf p b .outcome) (verdictOf p b)

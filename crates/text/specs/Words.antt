@@ -67,3 +67,6 @@ heldWord = 0x646c6568
 
 abbrev pub offeredWord : ℕ
 offeredWord = 0x6465726566666f
+
+abbrev pub refusedWord : ℕ
+refusedWord = 0x64657375666572

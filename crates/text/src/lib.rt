@@ -5,16 +5,26 @@ ghost use mathlib.Core.Path.{_≡_};
 ghost use mathlib.Core.List.{[], _∷_};
 ghost use Prim.Native.Nat.{_≤_};
 ghost use lib.ListN.{length, take};
-ghost use Rattle.text.specs.Lines.{lineOf, letters, decimal, pieceText, textOf};
-ghost use Rattle.text.specs.Words.{planWord, tailWord, endWord, brokenWord, testWord, yesWord, cycleWord, pairWord, eventWord, boardWord, offersWord, pointWord};
+ghost use Rattle.text.specs.Text.{lineOf, letters, decimal, pieceText, textOf};
+ghost use Rattle.text.specs.Lines.{said, planLine, eventLine, replyLine, testLine, boardLine, pointLine, tailLine, verdictLine, endLine};
+ghost use Rattle.text.specs.Words.{testWord, pairWord, endWord};
 ghost use Rattle.text.specs.Inside.{with, RoomFor};
 ghost use Rattle.text.specs.declared.Piece.the-variants.{Name, Number};
+use board::Board;
+use board::Outcome;
+use board::Place;
+use board::Reply;
+use board::State;
+use board::Taken;
+use board::Verdict;
+use plan::Plan;
+use vee::Answer;
 
-// Room for a line: six pieces of at most twenty characters, and what stands between them.
+// Room for a line: five pieces of at most twenty characters, and what stands between them.
 pub const ROOM: usize = 128;
 
 // How many pieces may follow the first.
-pub const MORE: usize = 4;
+const MORE: usize = 4;
 
 pub struct Line {
     pub len: usize,
@@ -22,51 +32,53 @@ pub struct Line {
 }
 
 // The words of the lines: the ASCII codes of their letters, the first in the lowest byte.
-pub const PLAN: u64 = 0x6e616c70;
+const PLAN: u64 = 0x6e616c70;
 
-pub const TAIL: u64 = 0x6c696174;
+const TAIL: u64 = 0x6c696174;
 
-pub const END: u64 = 0x646e65;
+const END: u64 = 0x646e65;
 
-pub const KEPT: u64 = 0x7470656b;
+const KEPT: u64 = 0x7470656b;
 
-pub const BROKEN: u64 = 0x6e656b6f7262;
+const BROKEN: u64 = 0x6e656b6f7262;
 
-pub const STUCK: u64 = 0x6b63757473;
+const STUCK: u64 = 0x6b63757473;
 
-pub const OPEN: u64 = 0x6e65706f;
+const OPEN: u64 = 0x6e65706f;
 
-pub const TEST: u64 = 0x74736574;
+const TEST: u64 = 0x74736574;
 
-pub const YES: u64 = 0x736579;
+const YES: u64 = 0x736579;
 
-pub const CYCLE: u64 = 0x656c637963;
+const CYCLE: u64 = 0x656c637963;
 
-pub const PAIR: u64 = 0x72696170;
+const PAIR: u64 = 0x72696170;
 
-pub const EVENT: u64 = 0x746e657665;
+const EVENT: u64 = 0x746e657665;
 
-pub const BOARD: u64 = 0x6472616f62;
+const BOARD: u64 = 0x6472616f62;
 
-pub const FINISHED: u64 = 0x64656873696e6966;
+const FINISHED: u64 = 0x64656873696e6966;
 
-pub const WAITING: u64 = 0x676e6974696177;
+const WAITING: u64 = 0x676e6974696177;
 
-pub const OFFERS: u64 = 0x73726566666f;
+const OFFERS: u64 = 0x73726566666f;
 
-pub const POINT: u64 = 0x746e696f70;
+const POINT: u64 = 0x746e696f70;
 
-pub const DONE: u64 = 0x656e6f64;
+const DONE: u64 = 0x656e6f64;
 
-pub const WATCHED: u64 = 0x64656863746177;
+const WATCHED: u64 = 0x64656863746177;
 
-pub const SHUT: u64 = 0x74756873;
+const SHUT: u64 = 0x74756873;
 
-pub const HELD: u64 = 0x646c6568;
+const HELD: u64 = 0x646c6568;
 
-pub const OFFERED: u64 = 0x6465726566666f;
+const OFFERED: u64 = 0x6465726566666f;
 
-pub enum Piece {
+const REFUSED: u64 = 0x64657375666572;
+
+enum Piece {
     Name(u64),
     Number(u64),
 }
@@ -143,31 +155,15 @@ fn line_of(first: Piece, more: [Piece; MORE], count: usize) -> Line
     with_byte(line, 10)
 }
 
-// `EVENT NUMBER CLOCK COUNT`: an event, its reply number, the clock and the count of done points of the board handed back.
-pub fn event_line(event: u64, number: u32, clock: u32, count: u32) -> Line
-    ensures { λ l. ⌜ l ≡ lineOf (textOf (Number event) (Number number ∷ (Number clock ∷ (Number count ∷ [])))) ⌝ }
+// A word and two numbers.
+fn numbers(word: u64, a: u64, b: u64) -> Line
+    ensures { λ l. ⌜ l ≡ said (Name word) (Number a ∷ Number b ∷ []) ⌝ }
 {
     line_of(
-        Piece::Number(event),
+        Piece::Name(word),
         [
-            Piece::Number(number as u64),
-            Piece::Number(clock as u64),
-            Piece::Number(count as u64),
-            Piece::Name(0),
-        ],
-        3,
-    )
-}
-
-// `plan NUMBER RECORD`: a refused plan.
-pub fn plan_line(number: u32, place: u32) -> Line
-    ensures { λ l. ⌜ l ≡ lineOf (textOf (Name planWord) (Number number ∷ (Number place ∷ []))) ⌝ }
-{
-    line_of(
-        Piece::Name(PLAN),
-        [
-            Piece::Number(number as u64),
-            Piece::Number(place as u64),
+            Piece::Number(a),
+            Piece::Number(b),
             Piece::Name(0),
             Piece::Name(0),
         ],
@@ -175,9 +171,163 @@ pub fn plan_line(number: u32, place: u32) -> Line
     )
 }
 
+// Two words and a number.
+fn words(word: u64, what: u64, n: u32) -> Line
+    ensures { λ l. ⌜ l ≡ said (Name word) (Name what ∷ Number n ∷ []) ⌝ }
+{
+    line_of(
+        Piece::Name(word),
+        [
+            Piece::Name(what),
+            Piece::Number(n as u64),
+            Piece::Name(0),
+            Piece::Name(0),
+        ],
+        2,
+    )
+}
+
+// A word, two numbers and what they are.
+fn state(word: u64, a: u32, b: u32, what: u64) -> Line
+    ensures { λ l. ⌜ l ≡ said (Name word) (Number a ∷ Number b ∷ Name what ∷ []) ⌝ }
+{
+    line_of(
+        Piece::Name(word),
+        [
+            Piece::Number(a as u64),
+            Piece::Number(b as u64),
+            Piece::Name(what),
+            Piece::Name(0),
+        ],
+        3,
+    )
+}
+
+// A word, two numbers, what they are and a number of that.
+fn state_at(word: u64, a: u32, b: u32, what: u64, n: u32) -> Line
+    ensures { λ l. ⌜ l ≡ said (Name word) (Number a ∷ Number b ∷ Name what ∷ Number n ∷ []) ⌝ }
+{
+    line_of(
+        Piece::Name(word),
+        [
+            Piece::Number(a as u64),
+            Piece::Number(b as u64),
+            Piece::Name(what),
+            Piece::Number(n as u64),
+        ],
+        4,
+    )
+}
+
+// `plan NUMBER RECORD`: a refused plan.
+pub fn plan_line(number: u32, place: u32) -> Line
+    ensures { λ l. ⌜ l ≡ planLine number place ⌝ }
+{
+    numbers(PLAN, number as u64, place as u64)
+}
+
+// `EVENT NUMBER CLOCK COUNT`: an event, its reply number, the clock and the count of done points of the board handed back.
+pub fn event_line(event: u64, taken: Taken) -> Line
+    ensures { λ l. ⌜ l ≡ eventLine event taken ⌝ }
+{
+    let board = taken.board;
+    let count = points::count(board.done);
+    line_of(
+        Piece::Number(event),
+        [
+            Piece::Number(taken.number as u64),
+            Piece::Number(board.clock as u64),
+            Piece::Number(count as u64),
+            Piece::Name(0),
+        ],
+        3,
+    )
+}
+
+// `event K NUMBER`: an event and its reply number.
+pub fn reply_line(event: u64, number: u32) -> Line
+    ensures { λ l. ⌜ l ≡ replyLine event number ⌝ }
+{
+    numbers(EVENT, event, number as u64)
+}
+
+// `test pair P X Y`.
+fn test_pair(projection: u32, x: u32, y: u32) -> Line
+    ensures { λ l. ⌜ l ≡ said (Name testWord) (Name pairWord ∷ Number projection ∷ Number x ∷ Number y ∷ []) ⌝ }
+{
+    line_of(
+        Piece::Name(TEST),
+        [
+            Piece::Name(PAIR),
+            Piece::Number(projection as u64),
+            Piece::Number(x as u64),
+            Piece::Number(y as u64),
+        ],
+        4,
+    )
+}
+
+// `test NUMBER`.
+fn test_number(number: u32) -> Line
+    ensures { λ l. ⌜ l ≡ said (Name testWord) (Number number ∷ []) ⌝ }
+{
+    line_of(
+        Piece::Name(TEST),
+        [
+            Piece::Number(number as u64),
+            Piece::Name(0),
+            Piece::Name(0),
+            Piece::Name(0),
+        ],
+        1,
+    )
+}
+
+// What the plan test answers: `test yes N`, `test cycle P`, `test pair P X Y`, or `test NUMBER`.
+pub fn test_line(answer: Answer) -> Line
+    ensures { λ l. ⌜ l ≡ testLine answer ⌝ }
+{
+    match answer {
+        Answer::Yes(tried) => words(TEST, YES, tried),
+        Answer::Cycle(projection) => words(TEST, CYCLE, projection),
+        Answer::Pair(projection, x, y) => test_pair(projection, x, y),
+        Answer::Refused(number, _) => test_number(number),
+    }
+}
+
+// `board CLOCK COUNT` and what the board is, then the latest of an offer or the number of a refusal.
+pub fn board_line(board: Board, reply: Reply) -> Line
+    ensures { λ l. ⌜ l ≡ boardLine board reply ⌝ }
+{
+    let clock = board.clock;
+    let ones = points::count(board.done);
+    let outcome = reply.outcome;
+    match outcome {
+        Outcome::Finished => state(BOARD, clock, ones, FINISHED),
+        Outcome::Stuck => state(BOARD, clock, ones, STUCK),
+        Outcome::Waiting => state(BOARD, clock, ones, WAITING),
+        Outcome::Offers => state_at(BOARD, clock, ones, OFFERS, reply.latest),
+        Outcome::Refused(number, _) => state_at(BOARD, clock, ones, REFUSED, number),
+    }
+}
+
+// `point I POND` and what an offer says of the point, with the minute where it has one.
+pub fn point_line(point: u32, pond: u32, place: Place) -> Line
+    ensures { λ l. ⌜ l ≡ pointLine point pond place ⌝ }
+{
+    let said = place.state;
+    match said {
+        State::Done(minute) => state_at(POINT, point, pond, DONE, minute),
+        State::Watched => state(POINT, point, pond, WATCHED),
+        State::Shut => state(POINT, point, pond, SHUT),
+        State::Held => state(POINT, point, pond, HELD),
+        State::Offered(low) => state_at(POINT, point, pond, OFFERED, low),
+    }
+}
+
 // `tail`: an unfinished last record.
 pub fn tail_line() -> Line
-    ensures { λ l. ⌜ l ≡ lineOf (textOf (Name tailWord) []) ⌝ }
+    ensures { λ l. ⌜ l ≡ tailLine ⌝ }
 {
     line_of(
         Piece::Name(TAIL),
@@ -191,9 +341,9 @@ pub fn tail_line() -> Line
     )
 }
 
-// `end kept`, `end stuck`, `end open`.
-pub fn end_line(word: u64) -> Line
-    ensures { λ l. ⌜ l ≡ lineOf (textOf (Name endWord) (Name word ∷ [])) ⌝ }
+// `end` and a word.
+fn end_word(word: u64) -> Line
+    ensures { λ l. ⌜ l ≡ said (Name endWord) (Name word ∷ []) ⌝ }
 {
     line_of(
         Piece::Name(END),
@@ -207,162 +357,28 @@ pub fn end_line(word: u64) -> Line
     )
 }
 
-// `end broken N`.
-pub fn end_broken(place: u32) -> Line
-    ensures { λ l. ⌜ l ≡ lineOf (textOf (Name endWord) (Name brokenWord ∷ (Number place ∷ []))) ⌝ }
+// The verdict on a finished board: `end kept` or `end broken N`.
+fn verdict_line(verdict: Verdict) -> Line
+    ensures { λ l. ⌜ l ≡ verdictLine verdict ⌝ }
 {
-    line_of(
-        Piece::Name(END),
-        [
-            Piece::Name(BROKEN),
-            Piece::Number(place as u64),
-            Piece::Name(0),
-            Piece::Name(0),
-        ],
-        2,
-    )
+    match verdict {
+        Verdict::Kept => end_word(KEPT),
+        Verdict::Broken(place) => words(END, BROKEN, place),
+        Verdict::Refused(_, _) => end_word(OPEN),
+    }
 }
 
-// `test yes N`: the plan passes, with the number of projections tried.
-pub fn test_yes(tried: u32) -> Line
-    ensures { λ l. ⌜ l ≡ lineOf (textOf (Name testWord) (Name yesWord ∷ (Number tried ∷ []))) ⌝ }
+// How a sheet ends: `end kept`, `end broken N`, `end stuck` or `end open`.
+pub fn end_line(plan: Plan, board: Board) -> Line
+    ensures { λ l. ⌜ l ≡ endLine plan board ⌝ }
 {
-    line_of(
-        Piece::Name(TEST),
-        [
-            Piece::Name(YES),
-            Piece::Number(tried as u64),
-            Piece::Name(0),
-            Piece::Name(0),
-        ],
-        2,
-    )
-}
-
-// `test cycle P`.
-pub fn test_cycle(projection: u32) -> Line
-    ensures { λ l. ⌜ l ≡ lineOf (textOf (Name testWord) (Name cycleWord ∷ (Number projection ∷ []))) ⌝ }
-{
-    line_of(
-        Piece::Name(TEST),
-        [
-            Piece::Name(CYCLE),
-            Piece::Number(projection as u64),
-            Piece::Name(0),
-            Piece::Name(0),
-        ],
-        2,
-    )
-}
-
-// `test pair P X Y`.
-pub fn test_pair(projection: u32, from_point: u32, to_point: u32) -> Line
-    ensures { λ l. ⌜ l ≡ lineOf (textOf (Name testWord) (Name pairWord ∷ (Number projection ∷ (Number «from_point» ∷ (Number «to_point» ∷ []))))) ⌝ }
-{
-    line_of(
-        Piece::Name(TEST),
-        [
-            Piece::Name(PAIR),
-            Piece::Number(projection as u64),
-            Piece::Number(from_point as u64),
-            Piece::Number(to_point as u64),
-        ],
-        4,
-    )
-}
-
-// `test 13`.
-pub fn test_number(number: u32) -> Line
-    ensures { λ l. ⌜ l ≡ lineOf (textOf (Name testWord) (Number number ∷ [])) ⌝ }
-{
-    line_of(
-        Piece::Name(TEST),
-        [
-            Piece::Number(number as u64),
-            Piece::Name(0),
-            Piece::Name(0),
-            Piece::Name(0),
-        ],
-        1,
-    )
-}
-
-// `event K NUMBER`.
-pub fn event_reply(event: u64, number: u32) -> Line
-    ensures { λ l. ⌜ l ≡ lineOf (textOf (Name eventWord) (Number event ∷ (Number number ∷ []))) ⌝ }
-{
-    line_of(
-        Piece::Name(EVENT),
-        [
-            Piece::Number(event),
-            Piece::Number(number as u64),
-            Piece::Name(0),
-            Piece::Name(0),
-        ],
-        2,
-    )
-}
-
-// `board CLOCK COUNT finished`, `stuck` or `waiting`.
-pub fn board_line(clock: u32, count: u32, word: u64) -> Line
-    ensures { λ l. ⌜ l ≡ lineOf (textOf (Name boardWord) (Number clock ∷ (Number count ∷ (Name word ∷ [])))) ⌝ }
-{
-    line_of(
-        Piece::Name(BOARD),
-        [
-            Piece::Number(clock as u64),
-            Piece::Number(count as u64),
-            Piece::Name(word),
-            Piece::Name(0),
-        ],
-        3,
-    )
-}
-
-// `board CLOCK COUNT offers LATEST`.
-pub fn board_offers(clock: u32, count: u32, latest: u32) -> Line
-    ensures { λ l. ⌜ l ≡ lineOf (textOf (Name boardWord) (Number clock ∷ (Number count ∷ (Name offersWord ∷ (Number latest ∷ []))))) ⌝ }
-{
-    line_of(
-        Piece::Name(BOARD),
-        [
-            Piece::Number(clock as u64),
-            Piece::Number(count as u64),
-            Piece::Name(OFFERS),
-            Piece::Number(latest as u64),
-        ],
-        4,
-    )
-}
-
-// `point I POND watched`, `shut` or `held`.
-pub fn point_line(point: u32, pond: u32, word: u64) -> Line
-    ensures { λ l. ⌜ l ≡ lineOf (textOf (Name pointWord) (Number point ∷ (Number pond ∷ (Name word ∷ [])))) ⌝ }
-{
-    line_of(
-        Piece::Name(POINT),
-        [
-            Piece::Number(point as u64),
-            Piece::Number(pond as u64),
-            Piece::Name(word),
-            Piece::Name(0),
-        ],
-        3,
-    )
-}
-
-// `point I POND done M` or `offered LOW`.
-pub fn point_minute(point: u32, pond: u32, word: u64, minute: u32) -> Line
-    ensures { λ l. ⌜ l ≡ lineOf (textOf (Name pointWord) (Number point ∷ (Number pond ∷ (Name word ∷ (Number minute ∷ []))))) ⌝ }
-{
-    line_of(
-        Piece::Name(POINT),
-        [
-            Piece::Number(point as u64),
-            Piece::Number(pond as u64),
-            Piece::Name(word),
-            Piece::Number(minute as u64),
-        ],
-        4,
-    )
+    let reply = board::reply_of(plan, board);
+    let outcome = reply.outcome;
+    match outcome {
+        Outcome::Finished => verdict_line(board::verdict_of(plan, board)),
+        Outcome::Stuck => end_word(STUCK),
+        Outcome::Waiting => end_word(OPEN),
+        Outcome::Offers => end_word(OPEN),
+        Outcome::Refused(_, _) => end_word(OPEN),
+    }
 }

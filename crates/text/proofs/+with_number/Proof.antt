@@ -4,7 +4,7 @@ use Prim.Native.Nat.{ℕ, _/_, _<_, _≤_}
 use borrow.Fn.Kinds.{In}
 use borrow.Fn.PlainCycle.{Measures, is, falls, and}
 use native.Mathlib.Omega.{arith}
-use Rattle.text.specs.Lines.{decimal}
+use Rattle.text.specs.Text.{decimal}
 use Rattle.text.proofs.Adding.{one-digit, more-digits, room-first, room-after, with-with}
 use Rattle.text.proofs.with_number.Reads as with-number
 use Rattle.text.proofs.with_number.Kinds as with-number-kinds

@@ -6,7 +6,7 @@ use borrow.Fn.PlainCycle.{Measures, is, falls, and}
 use native.Mathlib.Omega.{arith}
 use mathlib.Core.Path.{_≡_}
 use mathlib.Core.List.{[], _∷_}
-use Rattle.text.specs.Lines.{letters}
+use Rattle.text.specs.Text.{letters}
 use Rattle.text.proofs.Adding.{no-letter, more-letters, with-nothing, room-first, room-after, with-with}
 use Rattle.text.proofs.with_word.Reads as with-word
 use Rattle.text.proofs.with_word.Kinds as with-word-kinds

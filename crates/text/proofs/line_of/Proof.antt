@@ -5,7 +5,7 @@ use mathlib.Core.Path.{_≡_, ap, _∙_}
 use mathlib.Core.List.{[], _∷_, _++_, append-nil, append-assoc}
 use Prim.Native.Nat.{ℕ, _≤_, _-_}
 use lib.ListN.{length, take, getD, length-append}
-use Rattle.text.specs.Lines.{lineOf, pieceText, moreText, textOf}
+use Rattle.text.specs.Text.{lineOf, pieceText, moreText, textOf}
 use Rattle.text.specs.declared.Piece.{Piece}
 use Rattle.text.specs.declared.Piece.the-variants.{Name}
 use Rattle.text.proofs.Adding.{fits-on, on, few-characters, sofar, sofar-few, sofar-more}

@@ -1,0 +1,4 @@
+-- The modules of proofs that belong to no one function.
+mod Fronts
+mod Marks
+mod Stages

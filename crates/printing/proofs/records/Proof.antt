@@ -1,0 +1,73 @@
+-- `printing::records` meets its contract. Assumes nothing.
+use mathlib.Core.Path.{_≡_}
+use Prim.Native.Nat.{_≤_, _<_, _-_, _/_, _^_}
+use lib.ListN.{length}
+use Rattle.plan.specs.Limits.{recordBytes}
+use borrow.Author.Needs.{needs}
+use Rattle.printing.proofs.records.Statement.{statement}
+use Rattle.printing.proofs.records.Tie as tie
+
+abbrev Inv-loop : tie.InvT-loop
+Inv-loop full chunk n lines₀ now₀ wait₀ i₀ lines now wait i = (i ≤ n / recordBytes) × (n ≤ length chunk) × (length chunk < 2 ^ 63) × (length lines ≡ length lines₀)
+
+abbrev μ-loop : tie.MeasureT-loop
+μ-loop full chunk n lines₀ now₀ wait₀ i₀ lines now wait i = n / recordBytes - i
+
+loop-holds : tie.Need-loop-holds Inv-loop μ-loop
+loop-holds c = search needs
+
+mul-at : tie.Need-mul-at Inv-loop μ-loop
+mul-at c = search needs
+
+add-next : tie.Need-add-next Inv-loop μ-loop
+add-next c = search needs
+
+sub-next : tie.Need-sub-next Inv-loop μ-loop
+sub-next c = search needs
+
+part-next-start : tie.Need-part-next-start Inv-loop μ-loop
+part-next-start c = search needs
+
+part-next-end : tie.Need-part-next-end Inv-loop μ-loop
+part-next-end c = search needs
+
+next-requires : tie.Need-next-requires Inv-loop μ-loop
+next-requires c κs = search needs
+
+say-requires : tie.Need-say-requires Inv-loop μ-loop
+say-requires c κs = search needs
+
+add-i : tie.Need-add-i Inv-loop μ-loop
+add-i c = search needs
+
+loop-less : tie.Need-loop-less Inv-loop μ-loop
+loop-less c = search needs
+
+loop-again : tie.Need-loop-again Inv-loop μ-loop
+loop-again c = search needs
+
+same-length : tie.Need-same-length Inv-loop μ-loop
+same-length c = search needs
+
+returns : tie.Need-returns Inv-loop μ-loop
+returns c = search needs
+
+pub records-spec : {M : Type 1} → statement M
+records-spec =
+    tie.close
+    (tie.spec
+    Inv-loop
+    μ-loop
+    loop-holds
+    mul-at
+    add-next
+    sub-next
+    part-next-start
+    part-next-end
+    next-requires
+    say-requires
+    add-i
+    loop-less
+    loop-again
+    same-length
+    returns)

@@ -1,0 +1,117 @@
+// What is printed of a sheet: one line for an event, or, in full, the plan test's answer and the reply to every board.
+ghost use mathlib.Core.Path.{_≡_};
+ghost use Prim.Native.Nat.{_<_, min};
+ghost use Rattle.plan.specs.Limits.{mostPoints};
+ghost use Rattle.plan.specs.APlan.{points, recordsOf};
+ghost use Rattle.printing.specs.Points.{lineAt};
+use crate::lines::Out;
+use crate::lines::put;
+use crate::sheet::BEGUN;
+use crate::sheet::EVENT;
+use crate::sheet::PLAYING;
+use crate::sheet::REFUSED;
+use crate::sheet::Sheet;
+use crate::sheet::TAIL;
+use board::Board;
+use board::Outcome;
+use board::Reply;
+use plan::MOST_POINTS;
+use plan::Plan;
+use text::Line;
+
+// One point in the list of an offer.
+fn line_at(plan: Plan, reply: Reply, i: u32) -> Line
+    requires { ⌜ i < mostPoints ⌝ }
+    ensures { λ l. ⌜ l ≡ lineAt plan reply i ⌝ }
+{
+    let at = i as usize;
+    let r = plan.records[at];
+    let place = reply.places[at];
+    text::point_line(i, r.code, place)
+}
+
+// How many points a plan has, as far as a reply has places.
+fn listed(plan: Plan) -> u32
+    ensures { λ n. ⌜ n ≡ min (points (recordsOf plan)) mostPoints ⌝ }
+{
+    let n = plan::points_of(plan);
+    if n < MOST_POINTS { n } else { MOST_POINTS }
+}
+
+// The list of an offer: a line for each point of the plan.
+fn list(plan: Plan, reply: Reply, lines: &mut [u8], out: Out) -> Out {
+    let count = listed(plan);
+    let mut now = out;
+    let mut i: u32 = 0;
+    while i < count {
+        let line = line_at(plan, reply, i);
+        now = put(lines, now, line);
+        i += 1;
+    }
+    now
+}
+
+// What a board is, and where it offers, the list.
+fn replied(plan: Plan, board: Board, lines: &mut [u8], out: Out) -> Out {
+    let reply = board::reply_of(plan, board);
+    let now = put(lines, out, text::board_line(board, reply));
+    let outcome = reply.outcome;
+    let Outcome::Offers = outcome else {
+        return now;
+    };
+    list(plan, reply, lines, now)
+}
+
+// An event: in one line, or its reply number and then its board.
+fn event(full: bool, sheet: Sheet, lines: &mut [u8], out: Out) -> Out {
+    let plan = sheet.plan;
+    let taken = sheet.taken;
+    if full {
+        let now = put(lines, out, text::reply_line(sheet.last, taken.number));
+        let board = taken.board;
+        return replied(plan, board, lines, now);
+    }
+    put(lines, out, text::event_line(sheet.last, taken))
+}
+
+// A plan that is read: in full, its test and the fresh board.
+fn begun(full: bool, sheet: Sheet, lines: &mut [u8], out: Out) -> Out {
+    if !full {
+        return out;
+    }
+    let plan = sheet.plan;
+    let taken = sheet.taken;
+    let board = taken.board;
+    let now = put(lines, out, text::test_line(vee::test(plan)));
+    replied(plan, board, lines, now)
+}
+
+// What there is to print after a record, or after the last.
+pub(crate) fn say(full: bool, sheet: Sheet, lines: &mut [u8], out: Out) -> Out {
+    let news = sheet.news;
+    if news == REFUSED {
+        let taken = sheet.taken;
+        return put(lines, out, text::plan_line(taken.number, taken.place));
+    }
+    if news == BEGUN {
+        return begun(full, sheet, lines, out);
+    }
+    if news == EVENT {
+        return event(full, sheet, lines, out);
+    }
+    if news == TAIL {
+        return put(lines, out, text::tail_line());
+    }
+    out
+}
+
+// How the sheet ends, where the plan was not refused.
+pub(crate) fn end(sheet: Sheet, lines: &mut [u8], out: Out) -> Out {
+    if sheet.stage != PLAYING {
+        return out;
+    }
+    let plan = sheet.plan;
+    let taken = sheet.taken;
+    let board = taken.board;
+    put(lines, out, text::end_line(plan, board))
+}

@@ -9,7 +9,7 @@ use std::thread::{self, JoinHandle};
 use std::time::{Duration, Instant};
 
 /// A program that has not ended after this long is stopped, which shows in how it ended.
-const PATIENCE: Duration = Duration::from_secs(20);
+const PATIENCE: Duration = Duration::from_secs(60);
 /// Any pipe has room for as much.
 const PIPE: usize = 4_096;
 
@@ -29,8 +29,10 @@ pub struct Shown {
     pub ended: String,
 }
 
+/// Two programs of one name.
 #[derive(Clone)]
 pub struct Both {
+    pub name: String,
     /// The words that start our program.
     pub ours: Vec<String>,
     /// The independent program.

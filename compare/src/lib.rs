@@ -6,5 +6,7 @@ pub mod draw;
 pub mod events;
 pub mod inputs;
 pub mod plans;
+pub mod player;
+pub mod printed;
 pub mod programs;
 pub mod smaller;

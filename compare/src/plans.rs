@@ -213,17 +213,35 @@ pub fn passing(draw: &mut Draw) -> Plan {
         sizes.points += 1;
         let scale = draw.pick(&[2, 3, 5, 8]);
         let plan = any(draw, sizes, scale, true);
-        if plan_test::projections(&plan).is_some_and(|count| count <= 50) {
-            if let Some(plan) = repaired(plan) {
-                return plan;
-            }
+        if let Some(plan) = repaired(plan, 16) {
+            return plan;
+        }
+    }
+}
+
+/// The same with more points, links and waits.
+pub fn passing_larger(draw: &mut Draw) -> Plan {
+    loop {
+        let sizes = Sizes {
+            points: 5 + draw.below(12),
+            links: 1 + draw.below(5),
+            ordinary: 2 + draw.below(12),
+            waits: draw.below(6),
+        };
+        let scale = draw.pick(&[2, 3, 5, 8]);
+        let plan = any(draw, sizes, scale, true);
+        if let Some(plan) = repaired(plan, 150) {
+            return plan;
         }
     }
 }
 
 /// Adds a record or a wait for each pair that the test names; none if that leads nowhere.
-fn repaired(mut plan: Plan) -> Option<Plan> {
-    for _ in 0..16 {
+fn repaired(mut plan: Plan, rounds: usize) -> Option<Plan> {
+    if plan_test::projections(&plan).is_none_or(|count| count > 64) {
+        return None;
+    }
+    for _ in 0..rounds {
         let (number, x, y) = match plan_test::plan_test(&plan) {
             Ok(Answer::Yes(_)) => return Some(plan),
             Ok(Answer::Pair(number, x, y)) => (number, x, y),
@@ -249,6 +267,9 @@ fn repaired(mut plan: Plan) -> Option<Plan> {
                 plan.waits.push(Wait { v: x, c, w: -d });
             }
             _ => plan.ordinary.push(Ordinary { x, d, y }),
+        }
+        if plan.ordinary.len() > FULL.ordinary || plan.waits.len() > FULL.waits {
+            return None;
         }
     }
     None

@@ -9,4 +9,5 @@ pub mod plans;
 pub mod player;
 pub mod printed;
 pub mod programs;
+pub mod requests;
 pub mod smaller;

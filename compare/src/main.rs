@@ -6,6 +6,7 @@ use compare::count::{self, Count};
 use compare::draw::Draw;
 use compare::inputs::{self, Input};
 use compare::programs::{self, Both, Shown, Way};
+use compare::requests;
 use compare::smaller;
 use std::io;
 use std::path::{Path, PathBuf};
@@ -141,31 +142,41 @@ fn work(pairs: &[Both], shared: &Shared) -> io::Result<Option<Found>> {
         let batch = shared.next_batch.fetch_add(1, Ordering::Relaxed);
         let mut draw = Draw::new(shared.seed, batch);
         let mut counts = vec![Count::default(); pairs.len()];
-        for (k, input) in inputs::batch(&mut draw, batch).into_iter().enumerate() {
-            if shared.stop.load(Ordering::Relaxed) {
-                return Ok(None);
+        // The probe takes requests, the printing programs sheets.
+        for probe in [false, true] {
+            let concerned = |both: &&Both| (both.name == "probe") == probe;
+            if !pairs.iter().any(|both| concerned(&both)) {
+                continue;
             }
-            let way = match draw.below(12) {
-                0 => Way::File,
-                1 if input.bytes.len() <= 1_000 => Way::Pieces(1 + draw.below(20)),
-                2 => Way::Pieces(100 + draw.below(900)),
-                _ => Way::Pipe,
+            let inputs = if probe {
+                requests::batch(&mut draw, batch)
+            } else {
+                inputs::batch(&mut draw, batch)
             };
-            for (both, count) in pairs.iter().zip(&mut counts) {
-                let (ours, theirs) = both.run(&input.bytes, way)?;
-                if programs::differ(&ours, &theirs) {
-                    let name = both.name.clone();
-                    return Ok(Some(Found {
-                        name,
-                        batch,
-                        k,
-                        input,
-                        way,
-                    }));
+            for (k, input) in inputs.into_iter().enumerate() {
+                if shared.stop.load(Ordering::Relaxed) {
+                    return Ok(None);
                 }
-                count.add(&ours.bytes);
+                let way = way(&mut draw, &input);
+                for (both, count) in pairs.iter().zip(&mut counts) {
+                    if !concerned(&both) {
+                        continue;
+                    }
+                    let (ours, theirs) = both.run(&input.bytes, way)?;
+                    if programs::differ(&ours, &theirs) {
+                        let name = both.name.clone();
+                        return Ok(Some(Found {
+                            name,
+                            batch,
+                            k,
+                            input,
+                            way,
+                        }));
+                    }
+                    count.add(&both.name, &ours.bytes);
+                }
+                shared.compared.fetch_add(1, Ordering::Relaxed);
             }
-            shared.compared.fetch_add(1, Ordering::Relaxed);
         }
         let mut all = shared.counts.lock().expect("no worker fails");
         for (one, count) in all.iter_mut().zip(counts) {
@@ -173,6 +184,16 @@ fn work(pairs: &[Both], shared: &Shared) -> io::Result<Option<Found>> {
         }
     }
     Ok(None)
+}
+
+/// How an input reaches the programs.
+fn way(draw: &mut Draw, input: &Input) -> Way {
+    match draw.below(12) {
+        0 => Way::File,
+        1 if input.bytes.len() <= 1_000 => Way::Pieces(1 + draw.below(20)),
+        2 => Way::Pieces(100 + draw.below(900)),
+        _ => Way::Pipe,
+    }
 }
 
 /// Keeps an input on which the programs differ, makes it smaller, and prints what each program says of it.

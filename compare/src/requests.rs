@@ -70,14 +70,15 @@ impl Requests {
     }
 }
 
-/// The batch of this number: every eight hold each kind.
+/// The batch of this number: every nine hold each kind.
 pub fn batch(draw: &mut Draw, number: u64) -> Vec<Input> {
-    match number % 8 {
+    match number % 9 {
         0..=1 => boards(draw, Off::Clause),
         2..=3 => boards(draw, Off::Nothing),
         4 => any_plans(draw),
         5 => buffers(draw),
         6 => events_of_any_length(draw),
+        7 => tests(draw),
         _ => files(draw),
     }
 }
@@ -326,7 +327,7 @@ fn event_for(draw: &mut Draw, plan: &Plan, at: &Board) -> events::Record {
 /// the count.
 fn any_plans(draw: &mut Draw) -> Vec<Input> {
     let mut inputs = Vec::new();
-    for _ in 0..3 {
+    for _ in 0..8 {
         let plan = good_plan(draw);
         let part = spoiled_file(draw, &plan);
         let mut records: Vec<RawRecord> = part.chunks(RECORD).map(raw).collect();
@@ -404,6 +405,33 @@ fn buffers(draw: &mut Draw) -> Vec<Input> {
     }]
 }
 
+/// The plan test on plans that pass, and on near-misses, some of which fail only inside their bounds.
+fn tests(draw: &mut Draw) -> Vec<Input> {
+    let mut requests = Requests::default();
+    for _ in 0..3 {
+        if draw.one_in(4) {
+            let mut sizes = Sizes::small(draw);
+            sizes.points += 4;
+            requests.plan(&plans::layered(draw, sizes, true));
+            requests.call(TEST);
+        }
+        let mut plan = match draw.below(3) {
+            0 => plans::haul(draw),
+            1 => plans::passing(draw),
+            _ => plans::passing_larger(draw),
+        };
+        for _ in 0..6 {
+            requests.plan(&plan);
+            requests.call(TEST);
+            plans::near_miss(draw, &mut plan);
+        }
+    }
+    vec![Input {
+        what: "plan tests".to_string(),
+        bytes: requests.0,
+    }]
+}
+
 /// Events of any length.
 fn events_of_any_length(draw: &mut Draw) -> Vec<Input> {
     let plan = good_plan(draw);
@@ -462,7 +490,7 @@ fn spoiled_file(draw: &mut Draw, plan: &Plan) -> Vec<u8> {
 fn files(draw: &mut Draw) -> Vec<Input> {
     let plan = good_plan(draw);
     let mut requests = Requests::default();
-    for _ in 0..4 {
+    for _ in 0..12 {
         let part = spoiled_file(draw, &plan);
         let length = match draw.below(4) {
             0 => draw.below(part.len() + 40),

@@ -1,62 +1,148 @@
-//! Counts which reply numbers and endings came up in what was printed.
+//! Counts what came up in what was printed: reply numbers, endings, the replies and tests that `offers` prints, and the
+//! answers of the probe.
 
 use std::collections::BTreeMap;
 
-/// What can come up in the output of a program: numbers on the plan line, numbers of events, and endings; of `offers` also
-/// the test's answers, what a board is, and what an offer says of a point.
-fn expected(program: &str) -> Vec<String> {
+/// What must come up in the lines of both printing programs: numbers on the plan line, numbers of events, and endings.
+fn printing() -> Vec<String> {
     let plan = (1..=11).map(|number| format!("plan {number}"));
     let event = std::iter::once(0).chain(21..=30);
     let event = event.map(|number| format!("event {number}"));
-    let mut words = vec!["end kept", "end broken", "end stuck", "end open", "tail"];
-    if program == "offers" {
-        words.extend(["test yes", "test cycle", "test pair", "test 13"]);
-        words.extend([
-            "board finished",
-            "board stuck",
-            "board waiting",
-            "board offers",
-        ]);
-        words.extend([
-            "point done",
-            "point watched",
-            "point shut",
-            "point held",
-            "point offered",
-        ]);
-    }
-    let words = words.into_iter().map(str::to_string);
-    plan.chain(event).chain(words).collect()
+    let endings = ["end kept", "end broken", "end stuck", "end open", "tail"];
+    let endings = endings.into_iter().map(str::to_string);
+    plan.chain(event).chain(endings).collect()
 }
 
-/// What a line is counted as.
+/// What must come up besides in the lines of `offers`.
+const OFFERS: [&str; 13] = [
+    "test yes",
+    "test cycle",
+    "test pair",
+    "test 13",
+    "board finished",
+    "board stuck",
+    "board waiting",
+    "board offers",
+    "point done",
+    "point watched",
+    "point shut",
+    "point held",
+    "point offered",
+];
+
+/// What must come up in the answers of the probe, by the number of the call (compare/PROBE.md): `plan` is a refused plan.
+const PROBE: [(&str, &[&str]); 8] = [
+    ("16", &["plan", "20", "101", "102", "103", "104"]),
+    ("place", &["1", "2", "3", "4", "5"]),
+    (
+        "17",
+        &[
+            "0", "plan", "20", "21", "22", "23", "24", "25", "26", "27", "28", "29", "30",
+        ],
+    ),
+    ("18", &["0", "plan", "20", "31", "100"]),
+    (
+        "19",
+        &["0", "1", "3", "4", "5", "6", "7", "8", "9", "10", "11"],
+    ),
+    ("20", &["0", "plan", "12"]),
+    ("21", &["plan", "13", "101", "102", "103"]),
+    (
+        "22",
+        &["0", "1", "2", "3", "4", "5", "6", "7", "8", "9", "10", "11"],
+    ),
+];
+
+/// What must come up in the lines of a program.
+fn expected(name: &str) -> Vec<String> {
+    let mut all = Vec::new();
+    if name == "probe" {
+        for (call, answers) in PROBE {
+            all.extend(answers.iter().map(|answer| format!("{call} {answer}")));
+        }
+        return all;
+    }
+    all.extend(printing());
+    if name == "offers" {
+        all.extend(OFFERS.map(str::to_string));
+    }
+    all
+}
+
+/// The keys of the probe's answers, each with as many lines after it as it has.
+fn probe_keys(text: &str) -> Vec<String> {
+    let mut keys = Vec::new();
+    let mut lines = text.lines();
+    while let Some(line) = lines.next() {
+        let words: Vec<&str> = line.split(' ').collect();
+        let [call, number, _, _] = words[..] else {
+            keys.push(format!("unknown line {line:?}"));
+            continue;
+        };
+        let of_plan = matches!(number.parse(), Ok(1..=11)) && !matches!(call, "19" | "22");
+        let answer = if of_plan { "plan" } else { number };
+        let more = match (call, number) {
+            ("16", _) => 32,
+            ("17", _) => 9,
+            ("21", "103") | ("22", _) => 1,
+            ("18" | "19" | "20" | "21", _) => 0,
+            // A number that is no call's is answered with itself.
+            _ => continue,
+        };
+        keys.push(format!("{call} {answer}"));
+        for line in lines.by_ref().take(more) {
+            if call == "16" {
+                let state = line.split(' ').nth(1).unwrap_or("none");
+                keys.push(format!("place {state}"));
+            }
+        }
+    }
+    keys
+}
+
+/// What a line is counted under.
 fn key(line: &str) -> String {
     let words: Vec<&str> = line.split(' ').collect();
     match words[..] {
         ["plan", number, _] => format!("plan {number}"),
-        ["end", ending] => format!("end {ending}"),
         ["end", "broken", _] => "end broken".to_string(),
+        ["end", ending] => format!("end {ending}"),
         ["tail"] => "tail".to_string(),
-        ["test", answer, ..] => format!("test {answer}"),
+        ["test", "pair", _, _, _] => "test pair".to_string(),
+        ["test", answer @ ("yes" | "cycle"), _] => format!("test {answer}"),
+        ["test", number] => format!("test {number}"),
         ["event", _, number] => format!("event {number}"),
-        ["board", _, _, what] | ["board", _, _, what, _] => format!("board {what}"),
-        ["point", _, _, what] | ["point", _, _, what, _] => format!("point {what}"),
+        ["board", _, _, "offers", _] => "board offers".to_string(),
+        ["board", _, _, outcome] => format!("board {outcome}"),
+        ["point", _, _, place @ ("done" | "offered"), _] => format!("point {place}"),
+        ["point", _, _, place] => format!("point {place}"),
         [_, number, _, _] => format!("event {number}"),
         _ => format!("unknown line {line:?}"),
     }
 }
 
-#[derive(Default)]
+/// How often each came up in the lines of one program.
+#[derive(Clone, Default)]
 pub struct Count {
     seen: BTreeMap<String, u64>,
 }
 
 impl Count {
-    /// Counts the lines of one output.
-    pub fn add(&mut self, output: &[u8]) {
-        for line in String::from_utf8_lossy(output).lines() {
-            *self.seen.entry(key(line)).or_default() += 1;
+    /// Counts the lines of one output of a program.
+    pub fn add(&mut self, name: &str, output: &[u8]) {
+        let text = String::from_utf8_lossy(output);
+        let keys = match name {
+            "probe" => probe_keys(&text),
+            _ => text.lines().map(key).collect(),
+        };
+        for key in keys {
+            self.one(key);
         }
+    }
+
+    /// Counts one more of a key.
+    pub fn one(&mut self, key: String) {
+        *self.seen.entry(key).or_default() += 1;
     }
 
     /// Adds the counts of another.
@@ -66,19 +152,31 @@ impl Count {
         }
     }
 
-    /// Prints the table; answers what never came up, and what came up but can't.
-    pub fn print(&self, program: &str) -> (Vec<String>, Vec<String>) {
-        let expected = expected(program);
-        let mut missing = Vec::new();
-        for key in &expected {
-            let count = self.seen.get(key).copied().unwrap_or(0);
-            println!("{key:<16}{count:>10}");
-            if count == 0 {
-                missing.push(key.clone());
-            }
-        }
-        let known = |key: &&String| !expected.contains(*key);
-        let strange = self.seen.keys().filter(known).cloned().collect();
-        (missing, strange)
+    pub fn of(&self, key: &str) -> u64 {
+        self.seen.get(key).copied().unwrap_or(0)
     }
+}
+
+/// Prints the table, a column for each program; answers what never came up, and what came up but can't.
+pub fn print(names: &[&str], counts: &[Count]) -> (Vec<String>, Vec<String>) {
+    let (mut missing, mut strange) = (Vec::new(), Vec::new());
+    let mut rows: Vec<String> = Vec::new();
+    for (name, count) in names.iter().zip(counts) {
+        let expected = expected(name);
+        let never = expected.iter().filter(|key| count.of(key) == 0);
+        missing.extend(never.map(|key| format!("{name}: {key}")));
+        let others = count.seen.keys().filter(|key| !expected.contains(key));
+        strange.extend(others.map(|key| format!("{name}: {key}")));
+        let new = expected.into_iter().filter(|key| !rows.contains(key));
+        let new: Vec<String> = new.collect();
+        rows.extend(new);
+    }
+    let head: String = names.iter().map(|name| format!("{name:>10}")).collect();
+    println!("{:<14}{head}", "");
+    for key in rows {
+        let cell = |count: &Count| format!("{:>10}", count.of(&key));
+        let row: String = counts.iter().map(cell).collect();
+        println!("{key:<14}{row}");
+    }
+    (missing, strange)
 }

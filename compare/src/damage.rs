@@ -111,7 +111,12 @@ pub fn aim(draw: &mut Draw, bytes: &mut [u8]) {
         }
         5 => {
             // Points of some link in places where they may not stand.
-            if !links.is_empty() {
+            let others: Vec<&Vec<u8>> = links.iter().filter(|link| link[2] != record[2]).collect();
+            if record[0] == 2 && !others.is_empty() && draw.one_in(2) {
+                let other = draw.pick(&others);
+                let (to, from) = draw.pick(&[(1, 2), (2, 1), (2, 2)]);
+                record[to] = other[from];
+            } else if !links.is_empty() {
                 let link = &links[draw.below(links.len())];
                 record[1 + draw.below(2)] = link[1 + draw.below(2)];
             } else {

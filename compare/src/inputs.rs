@@ -46,7 +46,9 @@ fn events_for(draw: &mut Draw, plan_part: &[u8], made_from: &Plan) -> Vec<u8> {
 /// The batch of this number: every eighty batches hold each kind of input.
 pub fn batch(draw: &mut Draw, number: u64) -> Vec<Input> {
     match number * 7 % 40 {
-        0..=9 => passing_runs(draw),
+        0..=6 => passing_runs(draw),
+        7..=8 => layered_runs(draw),
+        9 => many_projections(draw),
         10..=12 => haul_runs(draw),
         13..=16 => small_plans(draw),
         17..=18 => sized_plans(draw),
@@ -92,6 +94,30 @@ fn passing_runs(draw: &mut Draw) -> Vec<Input> {
     plans::near_miss(draw, &mut plan);
     inputs.extend(streams(draw, "plan that nearly passes", &plan, 4));
     inputs
+}
+
+/// Plans of any size that pass the test, and near-misses of them.
+fn layered_runs(draw: &mut Draw) -> Vec<Input> {
+    let sizes = Sizes::any(draw);
+    let mut plan = plans::layered(draw, sizes, false);
+    let mut inputs = streams(draw, "layered plan", &plan, 3);
+    plans::near_miss(draw, &mut plan);
+    inputs.extend(streams(draw, "layered plan, nearly", &plan, 1));
+    inputs
+}
+
+/// Plans of about 4,096 projections, most of them small.
+fn many_projections(draw: &mut Draw) -> Vec<Input> {
+    let mut sizes = Sizes::small(draw);
+    sizes.points += 8;
+    if draw.one_in(40) {
+        sizes = FULL;
+    }
+    let mut plan = plans::layered(draw, sizes, true);
+    if draw.one_in(3) {
+        plans::near_miss(draw, &mut plan);
+    }
+    streams(draw, "about 4,096 projections", &plan, 1)
 }
 
 fn haul_runs(draw: &mut Draw) -> Vec<Input> {

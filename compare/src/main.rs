@@ -1,19 +1,13 @@
-//! Compares two printing programs of document 01 on drawn inputs: compare PROGRAM SEED MINUTES THEIRS OURS...
-//! Started by compare/run from the folder above.
+//! Compares our programs with the independent ones on drawn inputs: compare SEED MINUTES OURS THEIRS NAMES [WORDS...]
+//! Started by compare/run from the folder above. A program NAME is OURSNAME on our side and THEIRSNAME on the other;
+//! WORDS start a program of ours where it can't be started by itself.
 
-mod count;
-mod damage;
-mod draw;
-mod events;
-mod inputs;
-mod plans;
-mod programs;
-mod smaller;
-
-use count::Count;
-use draw::Draw;
-use inputs::Input;
-use programs::{Both, Shown, Way};
+use compare::count::{self, Count};
+use compare::draw::Draw;
+use compare::inputs::{self, Input};
+use compare::programs::{self, Both, Shown, Way};
+use compare::requests;
+use compare::smaller;
 use std::io;
 use std::path::{Path, PathBuf};
 use std::process::ExitCode;
@@ -28,24 +22,26 @@ const KEPT: &str = "compare/kept";
 fn main() -> ExitCode {
     let words: Vec<String> = std::env::args().collect();
     let numbers = match &words[..] {
-        [_, _, seed, minutes, _, _, ..] => seed.parse().ok().zip(minutes.parse().ok()),
+        [_, seed, minutes, _, _, _, ..] => seed.parse().ok().zip(minutes.parse().ok()),
         _ => None,
     };
     let Some((seed, minutes)) = numbers.filter(|&(_, minutes)| (0.0..=1e6).contains(&minutes))
     else {
-        eprintln!("usage: compare PROGRAM SEED MINUTES THEIRS OURS...");
+        eprintln!("usage: compare SEED MINUTES OURS THEIRS NAMES [WORDS...]");
         return ExitCode::from(2);
     };
-    let both = Both {
-        program: words[1].clone(),
-        ours: words[5..].to_vec(),
-        theirs: words[4].clone(),
+    let [ours, theirs, names] = [&words[3], &words[4], &words[5]];
+    let pair = |name: &str| Both {
+        name: name.to_string(),
+        ours: [&words[6..], &[format!("{ours}{name}")]].concat(),
+        theirs: format!("{theirs}{name}"),
         scratch: scratch(0),
     };
+    let pairs: Vec<Both> = names.split_whitespace().map(pair).collect();
     programs::watch();
-    let same = compare(&both, seed, Duration::from_secs_f64(minutes * 60.0));
+    let same = compare(&pairs, seed, Duration::from_secs_f64(minutes * 60.0));
     // It is there only if an input was read from it.
-    let _ = std::fs::remove_file(&both.scratch);
+    let _ = std::fs::remove_file(scratch(0));
     match same {
         Ok(true) => ExitCode::SUCCESS,
         Ok(false) => ExitCode::FAILURE,
@@ -62,8 +58,9 @@ fn scratch(worker: usize) -> PathBuf {
     std::env::temp_dir().join(name)
 }
 
-/// An input on which the programs differ: number `k` of its batch.
+/// An input on which the programs of one name differ: number `k` of its batch.
 struct Found {
+    name: String,
     batch: u64,
     k: usize,
     input: Input,
@@ -77,12 +74,13 @@ struct Shared {
     next_batch: AtomicU64,
     compared: AtomicU64,
     stop: AtomicBool,
-    count: Mutex<Count>,
+    /// One for each name.
+    counts: Mutex<Vec<Count>>,
 }
 
 /// Compares until the time is over or a difference is found; is all well?
-fn compare(both: &Both, seed: u64, time: Duration) -> io::Result<bool> {
-    println!("{}, seed {seed}", both.program);
+fn compare(pairs: &[Both], seed: u64, time: Duration) -> io::Result<bool> {
+    println!("seed {seed}");
     let start = Instant::now();
     let shared = Shared {
         seed,
@@ -90,21 +88,23 @@ fn compare(both: &Both, seed: u64, time: Duration) -> io::Result<bool> {
         next_batch: AtomicU64::new(0),
         compared: AtomicU64::new(0),
         stop: AtomicBool::new(false),
-        count: Mutex::new(Count::default()),
+        counts: Mutex::new(vec![Count::default(); pairs.len()]),
     };
     let workers = thread::available_parallelism().map_or(1, usize::from);
     let results: Vec<io::Result<Option<Found>>> = thread::scope(|scope| {
         let start = |worker| {
-            let mut both = both.clone();
-            both.scratch = scratch(worker);
+            let mut pairs = pairs.to_vec();
+            for both in &mut pairs {
+                both.scratch = scratch(worker);
+            }
             let shared = &shared;
             scope.spawn(move || {
-                let result = work(&both, shared);
+                let result = work(&pairs, shared);
                 if !matches!(result, Ok(None)) {
                     shared.stop.store(true, Ordering::Relaxed);
                 }
                 // It is there only if an input was read from it.
-                let _ = std::fs::remove_file(&both.scratch);
+                let _ = std::fs::remove_file(scratch(worker));
                 result
             })
         };
@@ -116,15 +116,17 @@ fn compare(both: &Both, seed: u64, time: Duration) -> io::Result<bool> {
     for result in results {
         if let Some(found) = result? {
             println!("a difference, after {compared} inputs");
-            tell(both, seed, &found)?;
+            let both = pairs.iter().find(|both| both.name == found.name);
+            tell(both.expect("it was one of them"), seed, &found)?;
             return Ok(false);
         }
     }
     let seconds = start.elapsed().as_secs_f64();
     let rate = compared as f64 / seconds;
     println!("{compared} inputs the same, {seconds:.0} seconds, {rate:.0} a second");
-    let count = shared.count.into_inner().expect("no worker fails");
-    let (missing, strange) = count.print(&both.program);
+    let names: Vec<&str> = pairs.iter().map(|both| both.name.as_str()).collect();
+    let counts = shared.counts.into_inner().expect("no worker fails");
+    let (missing, strange) = count::print(&names, &counts);
     for key in &missing {
         println!("never came up: {key}");
     }
@@ -135,50 +137,82 @@ fn compare(both: &Both, seed: u64, time: Duration) -> io::Result<bool> {
 }
 
 /// Takes batch after batch, until the time is over, a difference is found or another worker says stop.
-fn work(both: &Both, shared: &Shared) -> io::Result<Option<Found>> {
+fn work(pairs: &[Both], shared: &Shared) -> io::Result<Option<Found>> {
     while Instant::now() < shared.until {
         let batch = shared.next_batch.fetch_add(1, Ordering::Relaxed);
         let mut draw = Draw::new(shared.seed, batch);
-        let mut count = Count::default();
-        for (k, input) in inputs::batch(&mut draw, batch).into_iter().enumerate() {
-            if shared.stop.load(Ordering::Relaxed) {
-                return Ok(None);
+        let mut counts = vec![Count::default(); pairs.len()];
+        // The probe takes requests, the printing programs sheets.
+        for probe in [false, true] {
+            let concerned = |both: &&Both| (both.name == "probe") == probe;
+            if !pairs.iter().any(|both| concerned(&both)) {
+                continue;
             }
-            let way = match draw.below(12) {
-                0 => Way::File,
-                1 if input.bytes.len() <= 1_000 => Way::Pieces(1 + draw.below(20)),
-                2 => Way::Pieces(100 + draw.below(900)),
-                _ => Way::Pipe,
+            let inputs = if probe {
+                requests::batch(&mut draw, batch)
+            } else {
+                inputs::batch(&mut draw, batch)
             };
-            let (ours, theirs) = both.run(&input.bytes, way)?;
-            if programs::differ(&ours, &theirs) {
-                return Ok(Some(Found {
-                    batch,
-                    k,
-                    input,
-                    way,
-                }));
+            for (k, input) in inputs.into_iter().enumerate() {
+                if shared.stop.load(Ordering::Relaxed) {
+                    return Ok(None);
+                }
+                let way = way(&mut draw, &input);
+                for (both, count) in pairs.iter().zip(&mut counts) {
+                    if !concerned(&both) {
+                        continue;
+                    }
+                    let (ours, theirs) = both.run(&input.bytes, way)?;
+                    if programs::differ(&ours, &theirs) {
+                        let name = both.name.clone();
+                        return Ok(Some(Found {
+                            name,
+                            batch,
+                            k,
+                            input,
+                            way,
+                        }));
+                    }
+                    count.add(&both.name, &ours.bytes);
+                }
+                shared.compared.fetch_add(1, Ordering::Relaxed);
             }
-            count.add(&ours.bytes);
-            shared.compared.fetch_add(1, Ordering::Relaxed);
         }
-        shared.count.lock().expect("no worker fails").join(count);
+        let mut all = shared.counts.lock().expect("no worker fails");
+        for (one, count) in all.iter_mut().zip(counts) {
+            one.join(count);
+        }
     }
     Ok(None)
+}
+
+/// How an input reaches the programs.
+fn way(draw: &mut Draw, input: &Input) -> Way {
+    match draw.below(12) {
+        0 => Way::File,
+        1 if input.bytes.len() <= 1_000 => Way::Pieces(1 + draw.below(20)),
+        2 => Way::Pieces(100 + draw.below(900)),
+        _ => Way::Pipe,
+    }
 }
 
 /// Keeps an input on which the programs differ, makes it smaller, and prints what each program says of it.
 fn tell(both: &Both, seed: u64, found: &Found) -> io::Result<()> {
     let Found {
+        name,
         batch,
         k,
         input,
         way,
     } = found;
     std::fs::create_dir_all(KEPT)?;
-    let whole = format!("{KEPT}/{seed}-{batch}-{k}.whole");
+    let file = format!("{KEPT}/{name}-{seed}-{batch}-{k}");
+    let whole = format!("{file}.whole");
     std::fs::write(Path::new(&whole), &input.bytes)?;
-    println!("made as: {}; given by {way:?}; kept in {whole}", input.what);
+    println!(
+        "{name}; made as: {}; given by {way:?}; kept in {whole}",
+        input.what
+    );
     // Read from a file is the simplest way to see it again.
     let way = if both.differ(&input.bytes, Way::File)? {
         Way::File
@@ -187,7 +221,6 @@ fn tell(both: &Both, seed: u64, found: &Found) -> io::Result<()> {
         *way
     };
     let small = smaller::smaller(both, way, &input.bytes)?;
-    let file = format!("{KEPT}/{seed}-{batch}-{k}");
     std::fs::write(Path::new(&file), &small)?;
     println!(
         "made smaller, from {} bytes to {}: {file}",
@@ -202,8 +235,9 @@ fn tell(both: &Both, seed: u64, found: &Found) -> io::Result<()> {
     show("ours", &ours);
     show("the independent program", &theirs);
     println!(
-        "to see it: diff <(bin/{} < {file}) <({} < {file})",
-        both.program, both.theirs
+        "to see it: diff <({} < {file}) <({} < {file})",
+        both.ours.join(" "),
+        both.theirs
     );
     Ok(())
 }

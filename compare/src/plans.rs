@@ -213,17 +213,35 @@ pub fn passing(draw: &mut Draw) -> Plan {
         sizes.points += 1;
         let scale = draw.pick(&[2, 3, 5, 8]);
         let plan = any(draw, sizes, scale, true);
-        if plan_test::projections(&plan).is_some_and(|count| count <= 50) {
-            if let Some(plan) = repaired(plan) {
-                return plan;
-            }
+        if let Some(plan) = repaired(plan, 16) {
+            return plan;
+        }
+    }
+}
+
+/// The same with more points, links and waits.
+pub fn passing_larger(draw: &mut Draw) -> Plan {
+    loop {
+        let sizes = Sizes {
+            points: 5 + draw.below(12),
+            links: 1 + draw.below(5),
+            ordinary: 2 + draw.below(12),
+            waits: draw.below(6),
+        };
+        let scale = draw.pick(&[2, 3, 5, 8]);
+        let plan = any(draw, sizes, scale, true);
+        if let Some(plan) = repaired(plan, 150) {
+            return plan;
         }
     }
 }
 
 /// Adds a record or a wait for each pair that the test names; none if that leads nowhere.
-fn repaired(mut plan: Plan) -> Option<Plan> {
-    for _ in 0..16 {
+fn repaired(mut plan: Plan, rounds: usize) -> Option<Plan> {
+    if plan_test::projections(&plan).is_none_or(|count| count > 64) {
+        return None;
+    }
+    for _ in 0..rounds {
         let (number, x, y) = match plan_test::plan_test(&plan) {
             Ok(Answer::Yes(_)) => return Some(plan),
             Ok(Answer::Pair(number, x, y)) => (number, x, y),
@@ -250,8 +268,94 @@ fn repaired(mut plan: Plan) -> Option<Plan> {
             }
             _ => plan.ordinary.push(Ordinary { x, d, y }),
         }
+        if plan.ordinary.len() > FULL.ordinary || plan.waits.len() > FULL.waits {
+            return None;
+        }
     }
     None
+}
+
+/// So many durations for each link that the plan has few projections, or as many as it may have, or one more.
+fn spans(draw: &mut Draw, links: usize, many: bool) -> Vec<i64> {
+    if many {
+        let exact: [&[i64]; 9] = [
+            &[4_096],
+            &[4_097],
+            &[4_095],
+            &[64, 64],
+            &[17, 241],
+            &[63, 65],
+            &[16, 16, 16],
+            &[2, 2, 2, 2, 4, 4, 4, 4],
+            &[3, 3, 3, 3, 3, 3, 3, 2],
+        ];
+        let mut spans = draw.pick(&exact).to_vec();
+        draw.shuffle(&mut spans);
+        return spans;
+    }
+    let mut left = draw.pick(&[1, 4, 16, 64]);
+    let mut spans = Vec::new();
+    for after in (0..links).rev() {
+        // At least two for each link.
+        let span = draw.edgy(2, (left >> after).max(2));
+        left /= span;
+        spans.push(span);
+    }
+    spans
+}
+
+/// A plan of any size that passes the test by its form, with `many` one that has about 4,096 projections. Its points are
+/// ends of links, late ones and calm ones. Negative steps start at late points (records down the list of late points, to
+/// ends and to calm ones, and waits) and at ends (to their A, which is calm). A step of zero or more leads to calm points,
+/// from which no negative step leads, and to ends from their A: so no shortest path needs a negative step after one that
+/// is not, and no cycle is negative.
+pub fn layered(draw: &mut Draw, sizes: Sizes, many: bool) -> Plan {
+    let links = sizes.links.min(sizes.points / 2);
+    let mut spans = spans(draw, links, many);
+    spans.truncate(sizes.points / 2);
+    let scale = draw.pick(&[2, 5, 20, 100, BOUND - 5_000]);
+    let mut order: Vec<usize> = (0..sizes.points).collect();
+    draw.shuffle(&mut order);
+    let (ends, others) = order.split_at(spans.len());
+    let (late, calm) = others.split_at(draw.below(others.len()));
+    let mut plan = Plan::default();
+    for _ in 0..sizes.points {
+        plan.ponds.push(draw.next() as u32);
+    }
+    for (&c, span) in ends.iter().zip(spans) {
+        let x = draw.edgy(1, scale);
+        let a = draw.pick(calm);
+        let y = x + span - 1;
+        plan.links.push(Link { a, x, y, c });
+    }
+    while plan.ordinary.len() < sizes.ordinary && sizes.points > 1 {
+        let down = !late.is_empty() && draw.one_in(2);
+        let k = draw.below(late.len().max(1));
+        let (x, d, y) = if down {
+            let lower = [&late[k + 1..], ends, calm].concat();
+            (late[k], draw.edgy(-scale, -1), draw.pick(&lower))
+        } else {
+            (
+                draw.below(sizes.points),
+                draw.edgy(0, scale),
+                draw.pick(calm),
+            )
+        };
+        if x != y {
+            plan.ordinary.push(Ordinary { x, d, y });
+        } else if calm.len() == 1 && late.is_empty() && draw.one_in(2) {
+            break;
+        }
+    }
+    if !late.is_empty() && !plan.links.is_empty() {
+        for _ in 0..sizes.waits {
+            let link = draw.pick(&plan.links);
+            let w = draw.edgy(1, link.y);
+            let v = draw.pick(late);
+            plan.waits.push(Wait { v, c: link.c, w });
+        }
+    }
+    plan
 }
 
 /// A chain whose steps are long: the clock goes as far as it can go.
@@ -319,4 +423,21 @@ pub fn stuck(draw: &mut Draw) -> Plan {
         }
     }
     plan
+}
+
+#[cfg(test)]
+mod tests {
+    use super::*;
+
+    #[test]
+    fn layered_plans_read_back_and_pass() {
+        for batch in 0..200 {
+            let draw = &mut Draw::new(1, batch);
+            let sizes = Sizes::any(draw);
+            let plan = layered(draw, sizes, false);
+            assert_eq!(oracle::plan::read(&plan.to_bytes()), Ok(plan.clone()));
+            let answer = plan_test::plan_test(&plan);
+            assert!(matches!(answer, Ok(Answer::Yes(_))), "{answer:?}");
+        }
+    }
 }

@@ -2,14 +2,14 @@
 
 use std::fs::File;
 use std::io::{self, Read, Write};
-use std::path::PathBuf;
+use std::path::{Path, PathBuf};
 use std::process::{Child, ChildStdout, Command, Stdio};
 use std::sync::{Arc, Mutex};
 use std::thread::{self, JoinHandle};
 use std::time::{Duration, Instant};
 
 /// A program that has not ended after this long is stopped, which shows in how it ended.
-const PATIENCE: Duration = Duration::from_secs(20);
+const PATIENCE: Duration = Duration::from_secs(60);
 /// Any pipe has room for as much.
 const PIPE: usize = 4_096;
 
@@ -29,10 +29,10 @@ pub struct Shown {
     pub ended: String,
 }
 
+/// Two programs of one name.
 #[derive(Clone)]
 pub struct Both {
-    /// What it is: `sheet` or `offers`.
-    pub program: String,
+    pub name: String,
     /// The words that start our program.
     pub ours: Vec<String>,
     /// The independent program.
@@ -71,8 +71,8 @@ impl Both {
         }
         let theirs = std::slice::from_ref(&self.theirs);
         let started = [
-            self.start(&self.ours, input, way)?,
-            self.start(theirs, input, way)?,
+            start(&self.ours, input, way, &self.scratch)?,
+            start(theirs, input, way, &self.scratch)?,
         ];
         let [ours, theirs] = started.map(finish);
         Ok((ours?, theirs?))
@@ -83,55 +83,62 @@ impl Both {
         let (ours, theirs) = self.run(input, way)?;
         Ok(differ(&ours, &theirs))
     }
-
-    fn start(&self, words: &[String], input: &[u8], way: Way) -> io::Result<Started> {
-        let mut command = Command::new(&words[0]);
-        command.args(&words[1..]);
-        command.stdout(Stdio::piped()).stderr(Stdio::null());
-        if way == Way::File {
-            command.stdin(File::open(&self.scratch)?);
-        } else {
-            command.stdin(Stdio::piped());
-        }
-        let mut child = command.spawn()?;
-        let output = child.stdout.take().expect("it is piped");
-        let mut writer = None;
-        if let Some(mut pipe) = child.stdin.take() {
-            // A program may end before it has read everything: what it printed is what counts.
-            if way == Way::Pipe && input.len() <= PIPE {
-                let _ = pipe.write_all(input);
-            } else {
-                let size = match way {
-                    Way::Pieces(size) => size,
-                    _ => PIPE,
-                };
-                let input = input.to_vec();
-                writer = Some(thread::spawn(move || {
-                    for piece in input.chunks(size) {
-                        if pipe.write_all(piece).is_err() {
-                            return;
-                        }
-                        thread::yield_now();
-                    }
-                }));
-            }
-        }
-        let child = Arc::new(Mutex::new(child));
-        let mut running = RUNNING.lock().expect("no thread fails with it");
-        running.push((Instant::now(), child.clone()));
-        Ok(Started {
-            child,
-            output,
-            writer,
-        })
-    }
 }
 
 pub fn differ(ours: &Shown, theirs: &Shown) -> bool {
     ours != theirs || ours.ended != ENDED_WELL
 }
 
-const ENDED_WELL: &str = "exit status: 0";
+/// How a program ends that ends well.
+pub const ENDED_WELL: &str = "exit status: 0";
+
+/// Runs one program on an input by a pipe.
+pub fn run(words: &[String], input: &[u8]) -> io::Result<Shown> {
+    finish(start(words, input, Way::Pipe, Path::new(""))?)
+}
+
+/// Starts one program; where the input is read from a file, it stands there.
+fn start(words: &[String], input: &[u8], way: Way, file: &Path) -> io::Result<Started> {
+    let mut command = Command::new(&words[0]);
+    command.args(&words[1..]);
+    command.stdout(Stdio::piped()).stderr(Stdio::null());
+    if way == Way::File {
+        command.stdin(File::open(file)?);
+    } else {
+        command.stdin(Stdio::piped());
+    }
+    let mut child = command.spawn()?;
+    let output = child.stdout.take().expect("it is piped");
+    let mut writer = None;
+    if let Some(mut pipe) = child.stdin.take() {
+        // A program may end before it has read everything: what it printed is what counts.
+        if way == Way::Pipe && input.len() <= PIPE {
+            let _ = pipe.write_all(input);
+        } else {
+            let size = match way {
+                Way::Pieces(size) => size,
+                _ => PIPE,
+            };
+            let input = input.to_vec();
+            writer = Some(thread::spawn(move || {
+                for piece in input.chunks(size) {
+                    if pipe.write_all(piece).is_err() {
+                        return;
+                    }
+                    thread::yield_now();
+                }
+            }));
+        }
+    }
+    let child = Arc::new(Mutex::new(child));
+    let mut running = RUNNING.lock().expect("no thread fails with it");
+    running.push((Instant::now(), child.clone()));
+    Ok(Started {
+        child,
+        output,
+        writer,
+    })
+}
 
 fn finish(mut started: Started) -> io::Result<Shown> {
     let mut bytes = Vec::new();

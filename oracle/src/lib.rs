@@ -6,6 +6,7 @@ pub mod by_value;
 pub mod event;
 pub mod plan;
 pub mod plan_test;
+pub mod probe;
 pub mod text;
 pub mod verdict;
 

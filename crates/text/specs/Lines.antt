@@ -31,10 +31,13 @@ said p ps = lineOf (textOf p ps)
 abbrev pub planLine : ℕ → ℕ → Line
 planLine n i = said (Name planWord) (Number n ∷ Number i ∷ [])
 
+-- four numbers
+abbrev pub numbersLine : ℕ → ℕ → ℕ → ℕ → Line
+numbersLine a b c d = said (Number a) (Number b ∷ Number c ∷ Number d ∷ [])
+
 -- EVENT NUMBER CLOCK COUNT: the count is the number of ones in the set of the board handed back
 abbrev pub eventLine : ℕ → Taken → Line
-eventLine k t =
-    said (Number k) (Number (t .number) ∷ Number (t .board .clock) ∷ Number (countOf (t .board .done)) ∷ [])
+eventLine k t = numbersLine k (t .number) (t .board .clock) (countOf (t .board .done))
 
 -- event K NUMBER
 abbrev pub replyLine : ℕ → ℕ → Line

@@ -6,7 +6,7 @@ ghost use mathlib.Core.List.{[], _∷_};
 ghost use Prim.Native.Nat.{_≤_};
 ghost use lib.ListN.{length, take};
 ghost use Rattle.text.specs.Text.{lineOf, letters, decimal, pieceText, textOf};
-ghost use Rattle.text.specs.Lines.{said, planLine, eventLine, replyLine, testLine, boardLine, pointLine, tailLine, verdictLine, endLine};
+ghost use Rattle.text.specs.Lines.{said, planLine, eventLine, replyLine, testLine, boardLine, pointLine, tailLine, verdictLine, endLine, numbersLine};
 ghost use Rattle.text.specs.Words.{testWord, pairWord, endWord};
 ghost use Rattle.text.specs.Inside.{with, RoomFor};
 ghost use Rattle.text.specs.declared.Piece.the-variants.{Name, Number};
@@ -226,22 +226,29 @@ pub fn plan_line(number: u32, place: u32) -> Line
     numbers(PLAN, number as u64, place as u64)
 }
 
+// Four numbers.
+pub fn numbers_line(a: u64, b: u32, c: u32, d: u32) -> Line
+    ensures { λ l. ⌜ l ≡ numbersLine a b c d ⌝ }
+{
+    line_of(
+        Piece::Number(a),
+        [
+            Piece::Number(b as u64),
+            Piece::Number(c as u64),
+            Piece::Number(d as u64),
+            Piece::Name(0),
+        ],
+        3,
+    )
+}
+
 // `EVENT NUMBER CLOCK COUNT`: an event, its reply number, the clock and the count of done points of the board handed back.
 pub fn event_line(event: u64, taken: Taken) -> Line
     ensures { λ l. ⌜ l ≡ eventLine event taken ⌝ }
 {
     let board = taken.board;
     let count = points::count(board.done);
-    line_of(
-        Piece::Number(event),
-        [
-            Piece::Number(taken.number as u64),
-            Piece::Number(board.clock as u64),
-            Piece::Number(count as u64),
-            Piece::Name(0),
-        ],
-        3,
-    )
+    numbers_line(event, taken.number, board.clock, count)
 }
 
 // `event K NUMBER`: an event and its reply number.

@@ -1,0 +1,183 @@
+//! The inputs: plans of given sizes that pass the plan test, a run of each, and requests for the probe.
+
+use oracle::board::{self, Board, Outcome};
+use oracle::event;
+use oracle::plan::{Link, Ordinary, Plan, Wait, RECORD};
+
+/// How large a plan is. Points are a multiple of 4, a quarter of them end links.
+#[derive(Clone, Copy)]
+pub struct Size {
+    pub points: usize,
+    pub ordinary: usize,
+    pub waits: usize,
+    /// A power of 2, at least 2 for each link.
+    pub projections: usize,
+}
+
+impl Size {
+    pub fn records(self) -> usize {
+        self.points + self.points / 4 + self.ordinary + self.waits
+    }
+}
+
+/// Every kind of record at its limit, and 4,096 projections.
+pub const FULL: Size = Size {
+    points: 32,
+    ordinary: 256,
+    waits: 64,
+    projections: 4_096,
+};
+
+/// A plan that passes the test by its form, as compare/src/plans.rs has them: first the calm points, then the late ones,
+/// then the ends of links. Negative steps start at late points and at ends; no step of zero or more leads to a late point,
+/// and to an end only from its A.
+pub fn plan(size: Size) -> Plan {
+    let n = size.points;
+    let links = n / 4;
+    let calm = (n - links) / 2;
+    let ends = n - links;
+    let mut plan = Plan {
+        ponds: (0..n as u32).map(|point| 1_000_000 + point).collect(),
+        ..Plan::default()
+    };
+    let mut left = size.projections;
+    for k in 0..links {
+        let after = links - 1 - k;
+        let span = if after == 0 {
+            left
+        } else {
+            (left >> after).clamp(2, 4)
+        };
+        left /= span;
+        let x = 10 + k as i64;
+        plan.links.push(Link {
+            a: k / 2 % calm,
+            x,
+            y: x + span as i64 - 1,
+            c: ends + k,
+        });
+    }
+    for j in 0..size.ordinary {
+        let late = calm + j * 7 % (ends - calm);
+        let (x, d, y) = if j % 2 == 0 {
+            (j * 11 % n, 2_000 + (j * 13 % 50) as i64, j * 5 % calm)
+        } else {
+            // Down the list of late points, and around to the calm ones past its end.
+            let lower = late + 1 + j * 3 % (n - late);
+            (late, -1 - (j % 9) as i64, lower % n)
+        };
+        let x = if x == y { ends } else { x };
+        plan.ordinary.push(Ordinary { x, d, y });
+    }
+    for j in 0..size.waits {
+        let link = plan.links[j * 3 % links];
+        let v = calm + j % (ends - calm);
+        let w = 1 + j as i64 % link.y;
+        plan.waits.push(Wait { v, c: link.c, w });
+    }
+    plan
+}
+
+pub fn record(minute: i64, foreman: u8, set: u32) -> [u8; RECORD] {
+    let mut bytes = [0; RECORD];
+    bytes[..4].copy_from_slice(&(minute as u32).to_le_bytes());
+    bytes[4] = foreman;
+    bytes[8..12].copy_from_slice(&set.to_le_bytes());
+    bytes
+}
+
+/// A run: its events, and the board before each and after the last.
+pub struct Run {
+    pub events: Vec<[u8; RECORD]>,
+    pub boards: Vec<Board>,
+}
+
+/// The events that could come next: offered points at their Low, and links that end as soon as they may.
+fn moves(plan: &Plan, at: &Board) -> Vec<[u8; RECORD]> {
+    let open = board::open_points(plan, at).into_iter();
+    let offered = open.map(|v| record(board::low(plan, at, v), v as u8, 0));
+    let running = plan.links.iter().filter(|link| board::is_running(at, link));
+    let ended = running.map(|link| {
+        let minute = at.clock().max(at.minute(link.a) + link.x);
+        record(minute, 255, 1 << link.c)
+    });
+    offered.chain(ended).collect()
+}
+
+/// A whole run of a plan that passes the test, by the earliest move each time.
+pub fn run(plan: &Plan) -> Run {
+    let mut boards = vec![Board::fresh()];
+    let mut events = Vec::new();
+    while board::outcome(plan, &boards[events.len()]) != Outcome::Finished {
+        let at = boards[events.len()];
+        let taken = |event: [u8; RECORD]| {
+            let (number, after) = event::take(plan, &at, &event);
+            (number == 0).then_some((event, after))
+        };
+        let moves = moves(plan, &at).into_iter().filter_map(taken);
+        let (event, after) = moves
+            .min_by_key(|(_, after)| after.clock)
+            .expect("a plan that passes does not stick");
+        events.push(event);
+        boards.push(after);
+    }
+    Run { events, boards }
+}
+
+impl Run {
+    /// The middle of the run, where something is offered: the events before it.
+    pub fn middle(&self, plan: &Plan) -> usize {
+        let offers = |&k: &usize| board::outcome(plan, &self.boards[k]) == Outcome::Offers;
+        let half = self.events.len() / 2;
+        (half..self.events.len())
+            .find(offers)
+            .expect("something is offered in the second half")
+    }
+}
+
+/// An event that is refused only after every window was looked at.
+pub fn refused(plan: &Plan, at: &Board) -> [u8; RECORD] {
+    let point = |v: u8| record(at.clock(), v, 0);
+    let mut all = (0..plan.points() as u8).map(point);
+    let late = |event: &[u8; RECORD]| event::take(plan, at, event).0 >= 28;
+    all.find(late).expect("some point is shut or too early")
+}
+
+/// A request of the probe.
+pub fn request(asked: u8, bytes: [u8; 3], numbers: [u32; 3]) -> Vec<u8> {
+    let numbers = numbers.iter().flat_map(|number| number.to_le_bytes());
+    [asked].into_iter().chain(bytes).chain(numbers).collect()
+}
+
+/// Requests that put a plan on the probe's desk.
+pub fn with_plan(plan: &Plan) -> Vec<u8> {
+    let records = plan.to_records();
+    let mut bytes = request(1, [0; 3], [records.len() as u32, 0, 0]);
+    for r in records {
+        let numbers = [r.first as u32, r.second as u32, r.code];
+        bytes.extend(request(2, [r.kind, r.a, r.b], numbers));
+    }
+    bytes
+}
+
+/// Requests that put a board there.
+pub fn with_board(board: &Board) -> Vec<u8> {
+    let mut bytes = request(3, [0; 3], [board.clock, board.done, 0]);
+    for (point, &minute) in board.minutes.iter().enumerate() {
+        bytes.extend(request(4, [point as u8, 0, 0], [minute, 0, 0]));
+    }
+    bytes
+}
+
+/// Requests that put bytes there.
+pub fn with_bytes(content: &[u8]) -> Vec<u8> {
+    let mut bytes = request(5, [0; 3], [content.len() as u32, 0, 0]);
+    for (k, eight) in content.chunks(8).enumerate() {
+        let word = |at: usize| {
+            let byte = |i: usize| eight.get(at + i).copied().unwrap_or(0);
+            u32::from_le_bytes([byte(0), byte(1), byte(2), byte(3)])
+        };
+        bytes.extend(request(6, [0; 3], [8 * k as u32, word(0), word(4)]));
+    }
+    bytes
+}

@@ -1,0 +1,83 @@
+//! Runs a program on an input and says what it printed and how much processor time it took.
+
+use std::fs::File;
+use std::io::{self, Write};
+use std::path::PathBuf;
+use std::process::{Command, Stdio};
+
+/// The words that start a program.
+pub type Words = Vec<String>;
+
+#[repr(C)]
+#[derive(Default)]
+struct Usage {
+    user: [i64; 2],
+    system: [i64; 2],
+    rest: [i64; 14],
+}
+
+extern "C" {
+    fn getrusage(who: i32, usage: *mut Usage) -> i32;
+}
+
+/// The processor time of all programs that were started and have ended, in seconds.
+fn children() -> f64 {
+    let mut usage = Usage::default();
+    // RUSAGE_CHILDREN; `usage` has the layout of a Linux `struct rusage` of 64 bits.
+    unsafe { getrusage(-1, &mut usage) };
+    let seconds = |time: [i64; 2]| time[0] as f64 + time[1] as f64 / 1e6;
+    seconds(usage.user) + seconds(usage.system)
+}
+
+pub struct Machine {
+    pub scratch: PathBuf,
+}
+
+impl Machine {
+    pub fn new() -> Machine {
+        let name = format!("bench-{}.input", std::process::id());
+        Machine {
+            scratch: std::env::temp_dir().join(name),
+        }
+    }
+
+    /// Puts the input where programs read it from.
+    pub fn input(&self, bytes: &[u8]) -> io::Result<()> {
+        File::create(&self.scratch)?.write_all(bytes)
+    }
+
+    /// Runs a program: what it printed, if that is wanted, and its seconds.
+    pub fn run(&self, words: &Words, wanted: bool) -> io::Result<(Vec<u8>, f64)> {
+        let before = children();
+        let mut command = Command::new(&words[0]);
+        command.args(&words[1..]).stdin(File::open(&self.scratch)?);
+        command.stdout(if wanted {
+            Stdio::piped()
+        } else {
+            Stdio::null()
+        });
+        let output = command
+            .stderr(Stdio::inherit())
+            .spawn()?
+            .wait_with_output()?;
+        if !output.status.success() {
+            let what = format!("{} ended with {}", words.join(" "), output.status);
+            return Err(io::Error::other(what));
+        }
+        Ok((output.stdout, children() - before))
+    }
+}
+
+impl Drop for Machine {
+    fn drop(&mut self) {
+        // It is there only if something was run.
+        let _ = std::fs::remove_file(&self.scratch);
+    }
+}
+
+/// The middle one, the least and the largest.
+pub fn spread(mut numbers: Vec<f64>) -> [f64; 3] {
+    numbers.sort_by(f64::total_cmp);
+    let last = numbers.len() - 1;
+    [numbers[last / 2], numbers[0], numbers[last]]
+}

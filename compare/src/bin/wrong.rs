@@ -1,0 +1,402 @@
+//! Shows that the comparison finds what is wrong: wrong SEED SECONDS
+//! Started by compare/wrong from the folder above. Each wrong version is bench/plain.c with one text replaced; it is compared
+//! with the independent program as our programs are, and a difference has to come up in so many seconds.
+
+use compare::draw::Draw;
+use compare::programs::{self, Both, Way};
+use compare::{inputs, requests};
+use std::io;
+use std::path::Path;
+use std::process::{Command, ExitCode};
+use std::time::{Duration, Instant};
+
+const PLAIN: &str = "bench/plain.c";
+const THEIRS: &str = "oracle/target/release/oracle-";
+
+struct Wrong {
+    what: &'static str,
+    /// The program that has to show it.
+    shown_by: &'static str,
+    right: &'static str,
+    wrong: &'static str,
+}
+
+const fn wrong(
+    shown_by: &'static str,
+    what: &'static str,
+    right: &'static str,
+    wrong: &'static str,
+) -> Wrong {
+    Wrong {
+        what,
+        shown_by,
+        right,
+        wrong,
+    }
+}
+
+/// The wrong readings that document 01 names come first.
+const ALL: &[Wrong] = &[
+    wrong(
+        "probe",
+        "only the shortest and longest durations are tested",
+        "if (link == past) return judge(s, number);",
+        "if (link == past) {
+            for (u32 k = s->points; k < past; k++) {
+                i64 d = s->durations[s->sheet[k].over];
+                if (d != s->sheet[k].first && d != s->sheet[k].second) return (answer){YES, number + 1, 0, 0};
+            }
+            return judge(s, number);
+        }",
+    ),
+    wrong(
+        "probe",
+        "a wait is projected as -w where the link ends sooner",
+        "-(r->first < p ? r->first : p)",
+        "-r->first",
+    ),
+    wrong(
+        "sheet",
+        "windows are judged after the event's watched points",
+        "    if (v != 255 && !has(w.opens, v)) return 28;",
+        "    board after = *b;
+        after.done |= set;
+        for (u32 rest = set; rest; rest &= rest - 1) after.minutes[__builtin_ctz(rest)] = minute;
+        windows_of(p, &after, &l, &w);
+        if (v != 255 && !has(w.opens, v)) return 28;",
+    ),
+    wrong(
+        "sheet",
+        "the latest comes from one point's High",
+        "if (high < w->high) w->high = high;",
+        "w->high = high; break;",
+    ),
+    wrong(
+        "sheet",
+        "a watched point counts as open",
+        "& ~(l->watched | b->done | shut)",
+        "& ~(b->done | shut)",
+    ),
+    wrong("sheet", "kinds may fall", "if (r->kind < s->kind) return 5;", ""),
+    wrong(
+        "sheet",
+        "one more of a kind is taken",
+        "if (s->counts[r->kind] == most[r->kind]) return 6;",
+        "if (s->counts[r->kind] > most[r->kind]) return 6;",
+    ),
+    wrong(
+        "sheet",
+        "byte 3 is not looked at",
+        "bool zeros = reserved == 0;",
+        "bool zeros = reserved < 256;",
+    ),
+    wrong(
+        "sheet",
+        "an A may end another link",
+        "|| has(s->watched, r->a)) return 10;\n            if (r->first < 1 || r->first >= r->second",
+        ") return 10;\n            if (r->first < 1 || r->first >= r->second",
+    ),
+    wrong(
+        "sheet",
+        "x may be y",
+        "r->first >= r->second",
+        "r->first > r->second",
+    ),
+    wrong(
+        "sheet",
+        "a wait may be one longer than y",
+        "r->first > s->longest[r->b]) return 11;",
+        "r->first > s->longest[r->b] + 1) return 11;",
+    ),
+    wrong(
+        "sheet",
+        "a wait's V may be its A",
+        " || r->a == s->from[r->b]) return 10;",
+        ") return 10;",
+    ),
+    wrong(
+        "sheet",
+        "361 records are read",
+        "if (n / RECORD > RECORDS) return (refusal){3, 0};",
+        "if (n / RECORD > RECORDS + 1) return (refusal){3, 0};",
+    ),
+    wrong(
+        "probe",
+        "a refused read hands back records",
+        "if (found.number) memset(out, 0, sizeof *out);\n    return found;",
+        "return found;",
+    ),
+    wrong(
+        "probe",
+        "a plan by value of 361 records is taken for one of another number",
+        "if (p->count > RECORDS) return (refusal){3, 0};",
+        "if (p->count > RECORDS) return (refusal){6, 0};",
+    ),
+    wrong(
+        "probe",
+        "a write leaves byte 3 as it was",
+        "b[2] = r->b, b[3] = 0;",
+        "b[2] = r->b;",
+    ),
+    wrong(
+        "probe",
+        "a write wants one byte more",
+        "if (n < RECORD * (size_t)p->count)",
+        "if (n <= RECORD * (size_t)p->count)",
+    ),
+    wrong(
+        "probe",
+        "a done point may be outside the plan",
+        "if (b->done & ~below(points_of(p))) return false;",
+        "",
+    ),
+    wrong(
+        "probe",
+        "a point not done may hold a minute",
+        "if (m > b->clock || (m && !has(b->done, i))) return false;",
+        "if (m > b->clock) return false;",
+    ),
+    wrong(
+        "probe",
+        "the clock may be past the largest minute",
+        "if (b->clock != last) return false;",
+        "if (b->clock < last) return false;",
+    ),
+    wrong(
+        "probe",
+        "an end may be done without its A",
+        "if (!has(b->done, r->a) || to <",
+        "if (to <",
+    ),
+    wrong(
+        "probe",
+        "a done duration may be x - 1",
+        "to < from + r->first ||",
+        "to + 1 < from + r->first ||",
+    ),
+    wrong(
+        "probe",
+        "a done duration may be y + 1",
+        "to > from + r->second) return false;",
+        "to > from + r->second + 1) return false;",
+    ),
+    wrong(
+        "probe",
+        "a running link may have run out by one",
+        "b->clock > from + r->second) return false;",
+        "b->clock > from + r->second + 1) return false;",
+    ),
+    wrong(
+        "probe",
+        "the clock may be any",
+        "return b->clock <= FARTHEST * (u32)__builtin_popcount(b->done);",
+        "return true;",
+    ),
+    wrong(
+        "probe",
+        "the clock may not be the farthest",
+        "return b->clock <= FARTHEST * (u32)__builtin_popcount(b->done);",
+        "return b->clock < FARTHEST * (u32)__builtin_popcount(b->done) || b->clock == 0;",
+    ),
+    wrong(
+        "sheet",
+        "d = 0 shuts a point",
+        "} else if (r->first < 0) shut",
+        "} else if (r->first <= 0) shut",
+    ),
+    wrong(
+        "sheet",
+        "a wait does not shut its point before A",
+        "if (!has(b->done, a)) shut |= 1u << r->a;\n            else if",
+        "if",
+    ),
+    wrong(
+        "sheet",
+        "a wait counts after its C",
+        "else if (!has(b->done, r->b)) {\n                i64 low = (i64)b->minutes[a] + r->first;",
+        "else {\n                i64 low = (i64)b->minutes[a] + r->first;",
+    ),
+    wrong(
+        "sheet",
+        "a Low may be before the clock",
+        "w->lows[i] = b->clock, highs",
+        "w->lows[i] = 0, highs",
+    ),
+    wrong(
+        "sheet",
+        "a running link unsticks a board",
+        "    return true;\n}\n\nstatic i64 latest_of",
+        "    return !any_running(p, b);\n}\n\nstatic i64 latest_of",
+    ),
+    wrong(
+        "sheet",
+        "a Low at H is above it",
+        "<= w->high) return false;",
+        "< w->high) return false;",
+    ),
+    wrong(
+        "sheet",
+        "an offer reaches one minute further",
+        "i64 furthest = (i64)b->clock + FARTHEST;",
+        "i64 furthest = (i64)b->clock + FARTHEST + 1;",
+    ),
+    wrong(
+        "probe",
+        "a Low at the latest is held",
+        "else if (w.lows[i] > latest)",
+        "else if (w.lows[i] >= latest)",
+    ),
+    wrong(
+        "probe",
+        "an event of 17 bytes is read",
+        "if (length != RECORD ||",
+        "if (length < RECORD ||",
+    ),
+    wrong(
+        "sheet",
+        "25 comes after 26",
+        "|| has(b->done, c)) return 25;",
+        ") return 25;",
+    ),
+    wrong(
+        "sheet",
+        "an end one minute late is taken",
+        "duration > l.y[c]) return 26;",
+        "duration > l.y[c] + 1) return 26;",
+    ),
+    wrong(
+        "sheet",
+        "a link that runs out at the minute gives 27",
+        "&& minute > (u64)b->minutes[r->a] + r->second) return 27;",
+        "&& minute >= (u64)b->minutes[r->a] + r->second) return 27;",
+    ),
+    wrong(
+        "sheet",
+        "a refused event moves the clock",
+        "if (number) return (refusal){number, 0};",
+        "if (number) { if (number == 29) b->clock++; return (refusal){number, 0}; }",
+    ),
+    wrong(
+        "probe",
+        "a wait is judged by w alone",
+        "i64 least = r->first < to - from ? r->first : to - from;",
+        "i64 least = r->first;",
+    ),
+    wrong(
+        "probe",
+        "a record at its bound is broken",
+        "to - at > r->first) return",
+        "to - at >= r->first) return",
+    ),
+    wrong(
+        "probe",
+        "edges of weight 0 count as negative",
+        "(part == FALLING && v >= 0) || (part == RISING && v < 0)",
+        "(part == FALLING && v > 0) || (part == RISING && v <= 0)",
+    ),
+    wrong(
+        "probe",
+        "the pairs are walked with Y slowest",
+        "i64 v = s->all[x * POINTS + y];\n            if (v < NONE && !reaches(s, x, y, v)) return (answer){PAIR, number, x, y};",
+        "i64 v = s->all[y * POINTS + x];\n            if (v < NONE && !reaches(s, y, x, v)) return (answer){PAIR, number, y, x};",
+    ),
+    wrong(
+        "probe",
+        "4,097 projections are tried",
+        "if (projections > 4096) return",
+        "if (projections > 4097) return",
+    ),
+    wrong(
+        "sheet",
+        "an unfinished last record is not told",
+        "if (left) put_line(\"tail\", NULL, 0);",
+        "",
+    ),
+];
+
+fn main() -> ExitCode {
+    let words: Vec<String> = std::env::args().collect();
+    let numbers = match &words[..] {
+        [_, seed, seconds] => seed.parse().ok().zip(seconds.parse().ok()),
+        _ => None,
+    };
+    let Some((seed, seconds)) = numbers else {
+        eprintln!("usage: wrong SEED SECONDS");
+        return ExitCode::from(2);
+    };
+    programs::watch();
+    match find_all(seed, Duration::from_secs(seconds)) {
+        Ok(0) => ExitCode::SUCCESS,
+        Ok(_) => ExitCode::FAILURE,
+        Err(error) => {
+            eprintln!("wrong: {error}");
+            ExitCode::from(2)
+        }
+    }
+}
+
+/// Tries all wrong versions; answers how many are not found.
+fn find_all(seed: u64, patience: Duration) -> io::Result<usize> {
+    let source = std::fs::read_to_string(PLAIN)?;
+    let folder = std::env::temp_dir().join(format!("wrong-{}", std::process::id()));
+    std::fs::create_dir_all(&folder)?;
+    let mut missed = 0;
+    for one in ALL {
+        if source.matches(one.right).count() != 1 {
+            let what = format!("{}: its text is not once in {PLAIN}", one.what);
+            return Err(io::Error::other(what));
+        }
+        let program = build(&folder, &source.replace(one.right, one.wrong))?;
+        let both = Both {
+            name: one.shown_by.to_string(),
+            ours: vec![program, one.shown_by.to_string()],
+            theirs: format!("{THEIRS}{}", one.shown_by),
+            scratch: folder.join("input"),
+        };
+        match find(&both, seed, patience)? {
+            Some(after) => println!("found after {after:>5} inputs: {}", one.what),
+            None => {
+                println!("NOT FOUND: {}", one.what);
+                missed += 1;
+            }
+        }
+    }
+    std::fs::remove_dir_all(&folder)?;
+    println!("{} wrong versions, {missed} not found", ALL.len());
+    Ok(missed)
+}
+
+/// Builds a version of the plain program.
+fn build(folder: &Path, source: &str) -> io::Result<String> {
+    let (file, program) = (folder.join("plain.c"), folder.join("plain"));
+    std::fs::write(&file, source)?;
+    let mut gcc = Command::new("gcc");
+    gcc.args(["-O1", "-std=c11", "-w", "-o"]).arg(&program);
+    if !gcc.arg(&file).status()?.success() {
+        return Err(io::Error::other("gcc does not take a wrong version"));
+    }
+    Ok(program.to_string_lossy().into_owned())
+}
+
+/// The number of inputs after which the two differ.
+fn find(both: &Both, seed: u64, patience: Duration) -> io::Result<Option<usize>> {
+    let start = Instant::now();
+    let mut after = 0;
+    for batch in 0.. {
+        let draw = &mut Draw::new(seed, batch);
+        let inputs = match both.name.as_str() {
+            "probe" => requests::batch(draw, batch),
+            _ => inputs::batch(draw, batch),
+        };
+        for input in inputs {
+            after += 1;
+            if both.differ(&input.bytes, Way::Pipe)? {
+                return Ok(Some(after));
+            }
+            if start.elapsed() > patience {
+                return Ok(None);
+            }
+        }
+    }
+    Ok(None)
+}

@@ -1,0 +1,13 @@
+//! What the comparison and the games share: drawing of plans, events and whole inputs, running of programs, counting.
+
+pub mod count;
+pub mod damage;
+pub mod draw;
+pub mod events;
+pub mod inputs;
+pub mod plans;
+pub mod player;
+pub mod printed;
+pub mod programs;
+pub mod requests;
+pub mod smaller;

@@ -1,0 +1,508 @@
+//! Draws requests for the probe (PROBE.md): plans, boards, events and buffers of any content, boards one clause off sound
+//! above all.
+
+use crate::damage;
+use crate::draw::Draw;
+use crate::events;
+use crate::inputs::Input;
+use crate::plans::{self, Sizes};
+use oracle::board::{Board, PLACES};
+use oracle::event;
+use oracle::plan::{Plan, RawRecord, BOUND, RECORD, ROOM};
+use oracle::plan_test;
+
+const REPLY: u8 = 16;
+const TAKE: u8 = 17;
+const VERDICT: u8 = 18;
+const CHECK: u8 = 19;
+const WRITE: u8 = 20;
+const TEST: u8 = 21;
+const READ: u8 = 22;
+
+/// Requests one after another.
+#[derive(Default)]
+struct Requests(Vec<u8>);
+
+impl Requests {
+    fn ask(&mut self, asked: u8, bytes: [u8; 3], numbers: [u32; 3]) {
+        self.0.push(asked);
+        self.0.extend(bytes);
+        self.0
+            .extend(numbers.iter().flat_map(|number| number.to_le_bytes()));
+    }
+
+    fn call(&mut self, asked: u8) {
+        self.ask(asked, [0; 3], [0; 3]);
+    }
+
+    fn record(&mut self, r: &RawRecord) {
+        let numbers = [r.first as u32, r.second as u32, r.code];
+        self.ask(2, [r.kind, r.a, r.b], numbers);
+    }
+
+    fn records(&mut self, count: u32, records: &[RawRecord]) {
+        self.ask(1, [0; 3], [count, 0, 0]);
+        for record in records {
+            self.record(record);
+        }
+    }
+
+    fn plan(&mut self, plan: &Plan) {
+        self.records(plan.records() as u32, &plan.to_records());
+    }
+
+    fn board(&mut self, board: &Board) {
+        self.ask(3, [0; 3], [board.clock, board.done, 0]);
+        for (point, &minute) in board.minutes.iter().enumerate() {
+            self.ask(4, [point as u8, 0, 0], [minute, 0, 0]);
+        }
+    }
+
+    /// A buffer with these bytes at its front, and `fill` past them.
+    fn buffer(&mut self, front: &[u8], counts: usize, fill: u8) {
+        self.ask(5, [fill, 0, 0], [counts as u32, 0, 0]);
+        for (k, eight) in front.chunks(8).enumerate() {
+            let mut bytes = [fill; 8];
+            bytes[..eight.len()].copy_from_slice(eight);
+            let word = |at: usize| u32::from_le_bytes([0, 1, 2, 3].map(|place| bytes[at + place]));
+            self.ask(6, [0; 3], [8 * k as u32, word(0), word(4)]);
+        }
+    }
+}
+
+/// The batch of this number: every nine hold each kind.
+pub fn batch(draw: &mut Draw, number: u64) -> Vec<Input> {
+    match number % 9 {
+        0..=1 => boards(draw, Off::Clause),
+        2..=3 => boards(draw, Off::Nothing),
+        4 => any_plans(draw),
+        5 => buffers(draw),
+        6 => events_of_any_length(draw),
+        7 => tests(draw),
+        _ => files(draw),
+    }
+}
+
+/// A plan that a file can hold.
+fn good_plan(draw: &mut Draw) -> Plan {
+    match draw.below(8) {
+        0 => plans::haul(draw),
+        1 => plans::passing(draw),
+        2 => plans::chain(draw),
+        3 => plans::stuck(draw),
+        4 => {
+            let sizes = Sizes::any(draw);
+            plans::layered(draw, sizes, false)
+        }
+        5 => {
+            let sizes = Sizes::any(draw);
+            plans::roomy(draw, sizes)
+        }
+        _ => {
+            let mut sizes = Sizes::small(draw);
+            sizes.points += 2;
+            sizes.links += 1;
+            let scale = plans::scale(draw);
+            let hidden = draw.one_in(2);
+            plans::any(draw, sizes, scale, hidden)
+        }
+    }
+}
+
+/// The clock that the done points say.
+fn clocked(mut board: Board) -> Board {
+    let done = (0..PLACES).filter(|&point| board.is_done(point));
+    board.clock = done.map(|point| board.minutes[point]).max().unwrap_or(0);
+    board
+}
+
+fn set_done(board: &mut Board, point: usize, minute: i64) {
+    board.done |= 1 << point;
+    board.minutes[point] = minute as u32;
+}
+
+/// Ends running links that would have run out, anywhere in their bounds.
+fn settled(draw: &mut Draw, plan: &Plan, mut board: Board) -> Board {
+    board = clocked(board);
+    for link in &plan.links {
+        let from = board.minute(link.a);
+        let runs = board.is_done(link.a) && !board.is_done(link.c);
+        if runs && from + link.y < board.clock() {
+            set_done(&mut board, link.c, from + draw.edgy(link.x, link.y));
+        }
+    }
+    board
+}
+
+/// A sound board, few of which any events lead to; one in four is finished.
+fn sound(draw: &mut Draw, plan: &Plan) -> Board {
+    let all = draw.one_in(4);
+    let scale = draw.pick(&[1, 3, 20, 100, 5_000, BOUND - 40]);
+    let often = 1 + draw.below(4);
+    let mut board = Board::fresh();
+    for point in (0..plan.points()).filter(|&point| !plan.watched(point)) {
+        if all || !draw.one_in(often + 1) {
+            set_done(&mut board, point, draw.edgy(0, scale));
+        }
+    }
+    for link in plan.links.iter() {
+        if board.is_done(link.a) && (all || draw.one_in(2)) {
+            let minute = board.minute(link.a) + draw.edgy(link.x, link.y);
+            set_done(&mut board, link.c, minute);
+        }
+    }
+    settled(draw, plan, board)
+}
+
+/// A board that events lead to.
+fn reached(draw: &mut Draw, plan: &Plan) -> Board {
+    let mut at = Board::fresh();
+    for _ in 0..draw.below(plan.points() + 2) {
+        let Some(event) = events::good(draw, plan, &at, draw_calm(plan)) else {
+            break;
+        };
+        at = event::take(plan, &at, &event).1;
+    }
+    at
+}
+
+fn draw_calm(plan: &Plan) -> bool {
+    plan.points() > 6
+}
+
+#[derive(Clone, Copy, PartialEq)]
+enum Off {
+    Nothing,
+    Clause,
+}
+
+/// One of the points that a test holds of.
+fn some_point(draw: &mut Draw, test: impl Fn(usize) -> bool) -> Option<usize> {
+    let all: Vec<usize> = (0..PLACES).filter(|&point| test(point)).collect();
+    (!all.is_empty()).then(|| draw.pick(&all))
+}
+
+/// Moves a board to the edge of one clause of soundness, or one past it; says which.
+fn one_off(draw: &mut Draw, plan: &Plan, board: &mut Board) -> &'static str {
+    let was = *board;
+    let links = plan.links.clone();
+    let by = draw.below(2) as i64;
+    let starts = |point: usize| links.iter().any(|link| link.a == point);
+    match draw.below(10) {
+        0 => {
+            if let Some(point) = some_point(draw, |point| point >= plan.points()) {
+                set_done(board, point, draw.edgy(0, was.clock()));
+            }
+            "a done point that is not in the plan"
+        }
+        1 => {
+            if let Some(point) = some_point(draw, |point| !was.is_done(point)) {
+                board.minutes[point] = draw.edgy(by, was.clock().max(1)) as u32;
+            }
+            "a minute of a point that is not done"
+        }
+        2 => {
+            if let Some(point) = some_point(draw, |point| was.is_done(point)) {
+                board.minutes[point] = (was.clock() + by) as u32;
+            }
+            "a minute at the clock or past it"
+        }
+        3 => {
+            board.clock = match draw.below(3) {
+                0 => was.clock.wrapping_sub(1),
+                1 => was.clock + 1,
+                _ => draw.pick(&[0, 1, u32::MAX, 1 << 31, 3_200_000]),
+            };
+            "another clock"
+        }
+        4 => {
+            let ended = some_point(draw, |point| plan.watched(point) && was.is_done(point));
+            if let Some(link) = ended.and_then(|c| plan.link_to(c)) {
+                board.done &= !(1 << link.a);
+                board.minutes[link.a] = 0;
+                *board = clocked(*board);
+            }
+            "an end without its A"
+        }
+        5 => {
+            let started = |link: &&oracle::plan::Link| was.is_done(link.a);
+            let started: Vec<_> = links.iter().filter(started).collect();
+            if !started.is_empty() {
+                let link = draw.pick(&started);
+                let p = draw.pick(&[link.x - by, link.y + by]);
+                set_done(board, link.c, was.minute(link.a) + p);
+                *board = settled(draw, plan, *board);
+            }
+            "a duration at its bound or past it"
+        }
+        6 => {
+            let runs = |link: &&oracle::plan::Link| was.is_done(link.a) && !was.is_done(link.c);
+            let runs: Vec<_> = links.iter().filter(runs).collect();
+            let other = some_point(draw, |point| {
+                point < plan.points() && !plan.watched(point) && !starts(point)
+            });
+            if let (false, Some(other)) = (runs.is_empty(), other) {
+                let link = draw.pick(&runs);
+                set_done(board, other, was.minute(link.a) + link.y + by);
+                *board = clocked(*board);
+            }
+            "a running link that has just run out, or nearly"
+        }
+        7 => {
+            // The farthest clock that so many done points may have, or one more.
+            let other = some_point(draw, |point| point < plan.points() && !starts(point));
+            if let Some(other) = other {
+                board.done |= 1 << other;
+                let most = BOUND * i64::from(board.count()) + by;
+                set_done(board, other, most);
+                *board = clocked(*board);
+            }
+            "the farthest clock, or past it"
+        }
+        8 => {
+            let wild = [u32::MAX, 1 << 31, 3_200_001, draw.next() as u32];
+            let value = draw.pick(&wild);
+            match draw.below(3) {
+                0 => board.clock = value,
+                1 => board.done = value,
+                _ => board.minutes[draw.below(PLACES)] = value,
+            }
+            "a wild number"
+        }
+        _ => {
+            board.done ^= 1 << draw.below(PLACES);
+            "one point more or less done"
+        }
+    }
+}
+
+/// Asks everything about boards of one plan.
+fn boards(draw: &mut Draw, off: Off) -> Vec<Input> {
+    let plan = good_plan(draw);
+    let mut inputs = Vec::new();
+    for _ in 0..4 {
+        let mut requests = Requests::default();
+        let mut what = "boards".to_string();
+        requests.plan(&plan);
+        for _ in 0..6 {
+            let mut at = if draw.one_in(2) {
+                reached(draw, &plan)
+            } else {
+                sound(draw, &plan)
+            };
+            let event = event_for(draw, &plan, &at);
+            if off == Off::Clause {
+                what = format!("{what}; {}", one_off(draw, &plan, &mut at));
+            }
+            requests.buffer(&event, RECORD, 0);
+            requests.board(&at);
+            requests.call(REPLY);
+            requests.call(VERDICT);
+            requests.call(TAKE);
+            // The board handed back.
+            requests.call(REPLY);
+        }
+        let bytes = requests.0;
+        inputs.push(Input { what, bytes });
+    }
+    inputs
+}
+
+/// An event that fits the board, or nearly.
+fn event_for(draw: &mut Draw, plan: &Plan, at: &Board) -> events::Record {
+    let sound = oracle::board::sound(plan, at);
+    let good = if sound {
+        events::good(draw, plan, at, draw_calm(plan))
+    } else {
+        None
+    };
+    match good {
+        Some(good) if draw.one_in(2) => good,
+        Some(good) => events::spoiled(draw, plan, at, good),
+        None => events::noise(draw, plan, at),
+    }
+}
+
+/// Plans by value that no file could hold, most of them: a count past the room or another, records spoiled, records past
+/// the count.
+fn any_plans(draw: &mut Draw) -> Vec<Input> {
+    let mut inputs = Vec::new();
+    for _ in 0..8 {
+        let plan = good_plan(draw);
+        let part = spoiled_file(draw, &plan);
+        let mut records: Vec<RawRecord> = part.chunks(RECORD).map(raw).collect();
+        let mut count = records.len() as u32;
+        match draw.below(6) {
+            0 => count = draw.pick(&[0, 361, 362, 1 << 31, u32::MAX]),
+            1 => count = draw.below(ROOM + 2) as u32,
+            // Records past the count stand for nothing.
+            2 => records.extend(part.chunks(RECORD).rev().map(raw)),
+            _ => {}
+        }
+        records.truncate(ROOM);
+        let mut requests = Requests::default();
+        requests.records(count, &records);
+        let at = sound(draw, &plan);
+        let event = event_for(draw, &plan, &at);
+        requests.buffer(&event, RECORD, 0);
+        requests.board(&at);
+        for asked in [CHECK, REPLY, VERDICT, TAKE] {
+            requests.call(asked);
+        }
+        let length = draw.pick(&[0, 16 * records.len(), 16 * ROOM]);
+        let fill = draw.byte();
+        requests.buffer(&[], length, fill);
+        requests.call(WRITE);
+        if cheap(&plan) {
+            requests.call(TEST);
+        }
+        inputs.push(Input {
+            what: "a plan by value".to_string(),
+            bytes: requests.0,
+        });
+    }
+    inputs
+}
+
+/// A record as it stands in a file.
+fn raw(bytes: &[u8]) -> RawRecord {
+    let number = |at: usize| u32::from_le_bytes([0, 1, 2, 3].map(|place| bytes[at + place]));
+    RawRecord {
+        kind: bytes[0],
+        a: bytes[1],
+        b: bytes[2],
+        first: number(4) as i32,
+        second: number(8) as i32,
+        code: number(12),
+    }
+}
+
+/// Does its test go fast?
+fn cheap(plan: &Plan) -> bool {
+    let steps = plan.points().pow(2) * plan.records();
+    plan_test::projections(plan).is_none_or(|count| count as usize * steps < 20_000_000)
+}
+
+/// Writing into buffers of any length and content.
+fn buffers(draw: &mut Draw) -> Vec<Input> {
+    let plan = good_plan(draw);
+    let mut requests = Requests::default();
+    requests.plan(&plan);
+    let exact = RECORD * plan.records();
+    for length in [exact, exact - 1, exact + 1, 0, exact + 1_000] {
+        let fill = draw.byte();
+        requests.buffer(&[], length, fill);
+        requests.call(WRITE);
+        // What was written is read back; what was not is read too.
+        requests.call(READ);
+    }
+    if cheap(&plan) {
+        requests.call(TEST);
+    }
+    vec![Input {
+        what: "writing into buffers".to_string(),
+        bytes: requests.0,
+    }]
+}
+
+/// The plan test on plans that pass, and on near-misses, some of which fail only inside their bounds.
+fn tests(draw: &mut Draw) -> Vec<Input> {
+    let mut requests = Requests::default();
+    for _ in 0..3 {
+        if draw.one_in(4) {
+            let mut sizes = Sizes::small(draw);
+            sizes.points += 4;
+            requests.plan(&plans::layered(draw, sizes, true));
+            requests.call(TEST);
+        }
+        let mut plan = match draw.below(3) {
+            0 => plans::haul(draw),
+            1 => plans::passing(draw),
+            _ => plans::passing_larger(draw),
+        };
+        for _ in 0..6 {
+            requests.plan(&plan);
+            requests.call(TEST);
+            plans::near_miss(draw, &mut plan);
+        }
+    }
+    vec![Input {
+        what: "plan tests".to_string(),
+        bytes: requests.0,
+    }]
+}
+
+/// Events of any length.
+fn events_of_any_length(draw: &mut Draw) -> Vec<Input> {
+    let plan = good_plan(draw);
+    let mut requests = Requests::default();
+    requests.plan(&plan);
+    let at = reached(draw, &plan);
+    for length in [0, 1, 4, 8, 15, 16, 17, 31, 32, 65_536] {
+        let event = event_for(draw, &plan, &at);
+        let fill = draw.pick(&[0, 0, 255]);
+        requests.board(&at);
+        requests.buffer(&event, length, fill);
+        requests.call(TAKE);
+    }
+    requests.call(draw.pick(&[8, 15, 23, 255]));
+    vec![Input {
+        what: "events of any length".to_string(),
+        bytes: requests.0,
+    }]
+}
+
+/// Doubles an ordinary record or a wait until there is one too many, or adds points until there is.
+fn one_too_many(draw: &mut Draw, part: &mut Vec<u8>) {
+    let kind = draw.pick(&[1, 3, 4]);
+    let mut records: Vec<Vec<u8>> = part.chunks(RECORD).map(<[u8]>::to_vec).collect();
+    let count = records.iter().filter(|record| record[0] == kind).count();
+    let most = [0, 32, 8, 256, 64][usize::from(kind)];
+    if let Some(last) = records.iter().rposition(|record| record[0] == kind) {
+        for k in count..=most {
+            let mut more = records[last].clone();
+            if kind == 1 {
+                more[1] = k as u8;
+            }
+            records.insert(last + 1 + k - count, more);
+        }
+    }
+    *part = records.concat();
+}
+
+/// A plan's file, as it is or damaged.
+fn spoiled_file(draw: &mut Draw, plan: &Plan) -> Vec<u8> {
+    let mut part = plan.to_bytes();
+    if draw.one_in(6) {
+        one_too_many(draw, &mut part);
+        return part;
+    }
+    for _ in 0..draw.below(3) {
+        damage::aim(draw, &mut part);
+    }
+    if draw.one_in(3) {
+        damage::move_records(draw, &mut part);
+    }
+    part
+}
+
+/// Files of any content.
+fn files(draw: &mut Draw) -> Vec<Input> {
+    let plan = good_plan(draw);
+    let mut requests = Requests::default();
+    for _ in 0..12 {
+        let part = spoiled_file(draw, &plan);
+        let length = match draw.below(4) {
+            0 => draw.below(part.len() + 40),
+            1 => draw.pick(&[0, 1, 16 * ROOM, 16 * (ROOM + 1)]),
+            _ => part.len(),
+        };
+        let fill = draw.pick(&[0, 1, 3, 4]);
+        requests.buffer(&part, length, fill);
+        requests.call(READ);
+    }
+    vec![Input {
+        what: "files".to_string(),
+        bytes: requests.0,
+    }]
+}

@@ -1,5 +1,6 @@
 -- The proofs of the plan test that belong to no one function: tables and their closing first, then the walk over the
--- projections, then what a yes means, then the test computed. Later crates cite `Yes`, `Single` and `Plans`.
+-- projections, then what a yes means, then the test computed. Later crates cite `Yes`, `Single`,
+-- `Plans`, `Numbered`, `Executable` and `Cases`.
 pub mod Closing
 pub mod Laws
 pub mod Rows

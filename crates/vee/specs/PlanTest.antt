@@ -2,7 +2,7 @@
 -- order, and what an answer of the test means. Assumes nothing.
 use mathlib.Core.Path.{_≡_}
 use mathlib.Core.Logic.{_≢_}
-use mathlib.Core.Bool.{true, not}
+use mathlib.Core.Bool.{Bool, true, false, not}
 use mathlib.Core.List.{List, [], _∷_, _++_}
 use Prim.Native.Nat.{ℕ, zero, suc, _+_, _-_, _*_, _<_, _≤_}
 use lib.Dec.{eqb, ltb}
@@ -67,10 +67,15 @@ pub record Span : Type 0 where
 abbrev pub spanOf : Record → Span
 spanOf r = record { over = r .b; least = gapOf (r .first) .up; most = gapOf (r .second) .up }
 
+-- l in front of ls, if so
+abbrev pub inFront : Bool → Span → List Span → List Span
+inFront true l ls = l ∷ ls
+inFront false l ls = ls
+
 -- the links of a plan, in file order
 unfoldable pub spans : List Record → List Span
 spans [] = []
-spans (r ∷ rs) = if is link r then spanOf r ∷ spans rs else spans rs
+spans (r ∷ rs) = inFront (is link r) (spanOf r) (spans rs)
 
 -- k durations of a link, from p up, each with all that follows it: the link changes slowest
 unfoldable pub spread : (List ℕ → List (List ℕ)) → ℕ → ℕ → ℕ → List ℕ → List (List ℕ)

@@ -2,7 +2,7 @@
 mod Cases
 mod Linking
 mod Walks
-mod Broken
+pub mod Broken
 pub mod Theorems
 mod Minus
 mod Windowing

@@ -1,7 +1,7 @@
 -- The modules of proofs that belong to no one function. Other crates cite the ones that are `pub`.
 mod Linking
 mod Walks
-mod Broken
+pub mod Broken
 pub mod Theorems
 mod Minus
 mod Windowing

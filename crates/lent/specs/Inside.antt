@@ -43,3 +43,7 @@ judgedAfter s i x =
 unfoldable pub goneThrough : Judging → ℕ → List Bound → Judged
 goneThrough s i [] = s .answer
 goneThrough s i (x ∷ xs) = goneThrough (judgedAfter s i x) (suc i) xs
+
+-- how many bounds a list by value has room for
+abbrev pub listRoom : ℕ
+listRoom = 4096

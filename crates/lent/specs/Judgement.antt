@@ -4,7 +4,8 @@ use mathlib.Core.List.{List, [], _∷_}
 use Prim.Native.Nat.{ℕ, suc}
 use lib.Dec.{eqb}
 use Rattle.plan.specs.Choice.{if_then_else_}
-use Rattle.plan.specs.APlan.{points, recordsOf}
+use Rattle.plan.specs.APlan.{ordinary, is, points, recordsOf}
+use Rattle.plan.specs.declared.Record.{Record}
 use Rattle.plan.specs.declared.Plan.{Plan}
 use Rattle.bounds.specs.Bounds.{boundKept, bothIn}
 use Rattle.bounds.specs.declared.Bound.{Bound}
@@ -36,3 +37,20 @@ unfoldable pub judgeOf : Plan → Board → List Bound → Judged
 judgeOf p b xs =
     if not (eqb (endedOf p b .number) 0) then Refused (endedOf p b .number) (endedOf p b .place)
     else listed (points (recordsOf p)) b xs
+
+-- each answer in this paper's numbers: the reply number, 0 where nothing is refused
+abbrev pub numberIn : Judged → ℕ
+numberIn (Refused k j) = k
+numberIn Kept = 0
+numberIn (Broken j) = 0
+
+-- and its place: of the record that a refusal is about, or of the first broken bound
+abbrev pub placeIn : Judged → ℕ
+placeIn (Refused k j) = j
+placeIn Kept = 0
+placeIn (Broken j) = j
+
+-- the ordinary records of some records, each as a bound
+unfoldable pub ordinaries : List Record → List Bound
+ordinaries [] = []
+ordinaries (r ∷ rs) = if is ordinary r then (record { from = r .a; to = r .b; bound = r .first } ∷ ordinaries rs) else ordinaries rs

@@ -2,8 +2,10 @@
 // `judge` alone takes the list as it is lent, a slice of structs, and is proved by hand: it goes down the list and leaves
 // the work to functions on plain values. Every open function takes any plan, any board and any list and answers.
 ghost use mathlib.Core.Path.{_≡_};
+ghost use Prim.Native.Nat.{min};
+ghost use lib.ListN.{take};
 ghost use Rattle.lent.specs.Judgement.{judgeOf};
-ghost use Rattle.lent.specs.Inside.{begunOf, goesOn, answerAfter, judgedAfter};
+ghost use Rattle.lent.specs.Inside.{begunOf, goesOn, answerAfter, judgedAfter, listRoom};
 use board::Board;
 use board::ended;
 use board::minute_of;
@@ -117,4 +119,23 @@ pub fn judge(plan: Plan, board: Board, list: &[Bound]) -> Judged
         i += 1;
     }
     so_far.answer
+}
+
+// How many bounds a list by value has room for.
+pub const LIST_ROOM: usize = 4096;
+
+// How many of a list's bounds count, where `count` of them are said to.
+fn listed(count: usize) -> usize
+    ensures { λ n. ⌜ n ≡ min count listRoom ⌝ }
+{
+    if count < LIST_ROOM { count } else { LIST_ROOM }
+}
+
+// The same of the first `count` bounds of a list by value, for callers that are to need no proof by hand: it lends them
+// to `judge`.
+pub fn judge_list(plan: Plan, board: Board, list: [Bound; LIST_ROOM], count: usize) -> Judged
+    ensures { λ r. ⌜ r ≡ judgeOf plan board (take count list) ⌝ }
+{
+    let n = listed(count);
+    judge(plan, board, &list[..n])
 }

@@ -55,6 +55,7 @@ use Rattle.lent.specs.Judgement.{judgeOf}
 use Rattle.lent.specs.Inside.{begunOf, goesOn, judgedAfter, goneThrough}
 use Rattle.lent.specs.declared.Judged.{Judged}
 use Rattle.lent.specs.declared.Judging.{Judging}
+use Rattle.lent.proofs.Plainly.{plans, boards, bounds, told}
 use Rattle.lent.proofs.Going.{none, starts, passed, stopped, going}
 use Rattle.plan.proofs.Plan as P
 use Rattle.plan.proofs.Plan.Laws as P′
@@ -83,16 +84,7 @@ use Rattle.lent.proofs.judge as self
 use Rattle.lent.proofs.judge.Statement as stated
 use Rattle.lent.proofs.judge.Code as code
 
--- how a value of each type is spelled in the machine
-abbrev plans : Plan → List Val
-plans = LL.vals P.the-type P′.the-laws
-
-abbrev boards : Board → List Val
-boards = LL.vals B.the-type B′.the-laws
-
-abbrev bounds : Bound → List Val
-bounds = LL.vals T.the-type T′.the-laws
-
+-- how a `Judging` is spelled in the machine
 abbrev judgings : Judging → List Val
 judgings = LL.vals J.the-type J′.the-laws
 
@@ -142,15 +134,6 @@ module _ (s : Judging) (u : Val) (is : Is J.the-row s (u ∷ [])) where
 
   is-spelt : Is J.the-row s (judgings s)
   is-spelt = subst (λ (vs : List Val). Is J.the-row s vs) spelt is
-
-module _ {M : Type 1} (𝓤 : URA M) (H : Heap 𝓤) (A : Atoms 𝓤) (W : Given 𝓤 H A) where
-  -- What a function of plain data leaves whose contract says that its result is x: for some r, what r owns and `ensured r`.
-  told : (R : RattleType) (x : R .Denot) (E : R .Denot → SProp 𝓤) → ((r : R .Denot) → ent 𝓤 (E r) (fact 𝓤 (r ≡ x))) → (u : Val)
-      → ent 𝓤 (⋆ 𝓤 H A (later (some (λ (r : R .Denot). (‵ ftrue ⊛ ‵ (R .own r (u ∷ []))) ⊛ raw (E r))) ∷ [])) (H .⇛ (fact 𝓤 (Is R x (u ∷ []))))
-  told R x E so u =
-      qed W (later (some (λ (r : R .Denot). (‵ ftrue ⊛ ‵ (R .own r (u ∷ []))) ⊛ raw (E r))) ∷ []) ∵ updating ! $ await ! tt $ pick ! (λ r.
-      split ! $ move ! (1 ∷ []) $ use1 W (raw (fact 𝓤 (r ≡ x))) (so r) $ heard ! (r ≡ x) (λ e. split ! $ drop ! $ facts ! R (Is R) (shows 𝓤 H A R) r (u ∷ []) (λ is.
-      at-once ! $ nothing ! $ use1 W (raw (fact 𝓤 (Is R x (u ∷ [])))) (factI 𝓤 (Is R x (u ∷ [])) (emp 𝓤) (subst (λ (y : R .Denot). Is R y (u ∷ [])) e is)) $ done !)))
 
 module _ {M : Type 1} (𝓤 : URA M) (H : Heap 𝓤) (A : Atoms 𝓤) (mem : Memory → SProp 𝓤) (run : Routine → Fun 𝓤) where
   -- the contracts that the proof cites

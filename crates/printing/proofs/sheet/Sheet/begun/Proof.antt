@@ -1,5 +1,4 @@
 -- `printing::sheet::Sheet::begun` meets its contract. Assumes nothing.
-use mathlib.Core.Path.{_∙_}
 use Rattle.printing.proofs.Stages.{part-read, begins-read, begins-refused}
 use borrow.Author.Needs.{needs}
 use Rattle.printing.proofs.sheet.Sheet.begun.Statement.{statement}
@@ -24,7 +23,7 @@ returns : tie.Need-returns
 returns c =
     let s = c .before .before .before .before .before .before .before .before .before .before .args in
     let r = part-read (s .self .length) (s .front .now) (c .before .before .before .before .before .read .ensures) (c .before .before .before .before .before .before .before .within .ensures .1) (c .before .before .before .before .before .before .before .before .shown .ensures) in
-    c .turned .ensures ∙ begins-read (s .self) (s .front .now) r (c .before .before .if1 .taken)
+    rw (c .turned .ensures) (begins-read (s .self) (s .front .now) r (c .before .before .if1 .taken))
 
 turned-requires-2 : tie.Need-turned-requires-2
 turned-requires-2 c κs = search needs
@@ -33,7 +32,7 @@ returns-2 : tie.Need-returns-2
 returns-2 c =
     let s = c .before .before .before .before .before .before .before .before .before .before .before .args in
     let r = part-read (s .self .length) (s .front .now) (c .before .before .before .before .before .before .read .ensures) (c .before .before .before .before .before .before .before .before .within .ensures .1) (c .before .before .before .before .before .before .before .before .before .shown .ensures) in
-    c .turned2 .ensures ∙ begins-refused (s .self) (s .front .now) r (c .before .before .before .if1 .left)
+    rw (c .turned2 .ensures) (begins-refused (s .self) (s .front .now) r (c .before .before .before .if1 .left))
 
 pub begun-spec : {M : Type 1} → statement M
 begun-spec =

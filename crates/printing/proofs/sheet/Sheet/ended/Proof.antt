@@ -1,7 +1,8 @@
 -- `printing::sheet::Sheet::ended` meets its contract. Assumes nothing.
-use borrow.Author.Tests.{eq-eqb, ne-eqb}
+use borrow.Author.Tests.{eq-eqb}
 use Rattle.printing.specs.Sheets.{endedOf}
 use borrow.Author.Needs.{needs}
+use Rattle.printing.proofs.Stages.{ended-tail, ended-quiet}
 use Rattle.printing.proofs.sheet.Sheet.ended.Statement.{statement}
 use Rattle.printing.proofs.sheet.Sheet.ended.Tie as tie
 
@@ -19,15 +20,17 @@ turned-requires : tie.Need-turned-requires
 turned-requires c κs = search needs
 
 returns-2 : tie.Need-returns-2
-unfolding endedOf
-returns-2 c = rw (ne-eqb _ _ (c .before .before .before .before .before .if1 .left), c .before .before .before .if2 .taken) (c .turned .ensures)
+returns-2 c =
+    let s = c .before .before .before .before .before .before .before .before .args in
+    rw (c .turned .ensures) (ended-tail (s .self) (s .left) (s .front .now) (c .before .before .before .before .before .if1 .left) (c .before .before .before .if2 .taken))
 
 quiet-requires : tie.Need-quiet-requires
 quiet-requires c κs = search needs
 
 returns-3 : tie.Need-returns-3
-unfolding endedOf
-returns-3 c = rw (ne-eqb _ _ (c .before .before .before .if1 .left), c .before .if2 .left) (c .quiet .ensures)
+returns-3 c =
+    let s = c .before .before .before .before .before .before .args in
+    rw (c .quiet .ensures) (ended-quiet (s .self) (s .left) (s .front .now) (c .before .before .before .if1 .left) (c .before .if2 .left))
 
 pub ended-spec : {M : Type 1} → statement M
 ended-spec =

@@ -8,7 +8,7 @@ use crate::inputs::Input;
 use crate::plans::{self, Sizes};
 use oracle::board::{Board, PLACES};
 use oracle::event;
-use oracle::plan::{Plan, RawRecord, BOUND, RECORD, ROOM};
+use oracle::plan::{Link, Plan, RawRecord, BOUND, RECORD, ROOM};
 use oracle::plan_test;
 
 const REPLY: u8 = 16;
@@ -73,8 +73,8 @@ impl Requests {
 /// The batch of this number: every nine hold each kind.
 pub fn batch(draw: &mut Draw, number: u64) -> Vec<Input> {
     match number % 9 {
-        0..=1 => boards(draw, Off::Clause),
-        2..=3 => boards(draw, Off::Nothing),
+        0..=1 => boards(draw, true),
+        2..=3 => boards(draw, false),
         4 => any_plans(draw),
         5 => buffers(draw),
         6 => events_of_any_length(draw),
@@ -154,26 +154,21 @@ fn sound(draw: &mut Draw, plan: &Plan) -> Board {
     settled(draw, plan, board)
 }
 
+/// A jump of the clock ends a long run early.
+fn calm(plan: &Plan) -> bool {
+    plan.points() > 6
+}
+
 /// A board that events lead to.
 fn reached(draw: &mut Draw, plan: &Plan) -> Board {
     let mut at = Board::fresh();
     for _ in 0..draw.below(plan.points() + 2) {
-        let Some(event) = events::good(draw, plan, &at, draw_calm(plan)) else {
+        let Some(event) = events::good(draw, plan, &at, calm(plan)) else {
             break;
         };
         at = event::take(plan, &at, &event).1;
     }
     at
-}
-
-fn draw_calm(plan: &Plan) -> bool {
-    plan.points() > 6
-}
-
-#[derive(Clone, Copy, PartialEq)]
-enum Off {
-    Nothing,
-    Clause,
 }
 
 /// One of the points that a test holds of.
@@ -225,7 +220,7 @@ fn one_off(draw: &mut Draw, plan: &Plan, board: &mut Board) -> &'static str {
             "an end without its A"
         }
         5 => {
-            let started = |link: &&oracle::plan::Link| was.is_done(link.a);
+            let started = |link: &&Link| was.is_done(link.a);
             let started: Vec<_> = links.iter().filter(started).collect();
             if !started.is_empty() {
                 let link = draw.pick(&started);
@@ -236,7 +231,7 @@ fn one_off(draw: &mut Draw, plan: &Plan, board: &mut Board) -> &'static str {
             "a duration at its bound or past it"
         }
         6 => {
-            let runs = |link: &&oracle::plan::Link| was.is_done(link.a) && !was.is_done(link.c);
+            let runs = |link: &&Link| was.is_done(link.a) && !was.is_done(link.c);
             let runs: Vec<_> = links.iter().filter(runs).collect();
             let other = some_point(draw, |point| {
                 point < plan.points() && !plan.watched(point) && !starts(point)
@@ -276,8 +271,8 @@ fn one_off(draw: &mut Draw, plan: &Plan, board: &mut Board) -> &'static str {
     }
 }
 
-/// Asks everything about boards of one plan.
-fn boards(draw: &mut Draw, off: Off) -> Vec<Input> {
+/// Asks everything about boards of one plan: sound ones, or with `off` boards at the edge of a clause of soundness or past it.
+fn boards(draw: &mut Draw, off: bool) -> Vec<Input> {
     let plan = good_plan(draw);
     let mut inputs = Vec::new();
     for _ in 0..4 {
@@ -291,7 +286,7 @@ fn boards(draw: &mut Draw, off: Off) -> Vec<Input> {
                 sound(draw, &plan)
             };
             let event = event_for(draw, &plan, &at);
-            if off == Off::Clause {
+            if off {
                 what = format!("{what}; {}", one_off(draw, &plan, &mut at));
             }
             requests.buffer(&event, RECORD, 0);
@@ -312,7 +307,7 @@ fn boards(draw: &mut Draw, off: Off) -> Vec<Input> {
 fn event_for(draw: &mut Draw, plan: &Plan, at: &Board) -> events::Record {
     let sound = oracle::board::sound(plan, at);
     let good = if sound {
-        events::good(draw, plan, at, draw_calm(plan))
+        events::good(draw, plan, at, calm(plan))
     } else {
         None
     };

@@ -13,4 +13,3 @@ pub mod Play
 pub mod Lasting
 pub mod TestYes
 pub mod Haul
-pub mod SingleReply

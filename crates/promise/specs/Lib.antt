@@ -4,4 +4,3 @@
 pub mod Nets
 pub mod Runs
 pub mod Plays
-pub mod Contracts

@@ -2,7 +2,7 @@
 -- equation does so by one law; that of the plan test does by `one-answer`. Assumes nothing.
 use mathlib.Core.Path.{_≡_, sym, _∙_}
 use Rattle.vee.proofs.Single.{one-answer}
-use Rattle.promise.specs.Contracts.{Single, SingleReplies}
+use Rattle.contracts.specs.Contracts.{Single, SingleReplies}
 
 -- an equation permits one
 equal : {A : Type 0} (x : A) → Single (λ (r : A). r ≡ x)
@@ -25,10 +25,26 @@ single-replies =
       points-of = λ p. equal _;
       link-to = λ p q. equal _;
       is-watched = λ p q. equal _;
+      bound-kept = λ x d y. equal _;
+      both-in = λ n x y. equal _;
       fresh = equal _;
       reply-of = λ p b. equal _;
-      take = λ p b event. equal _;
+      take-event = λ p b event. equal _;
       take-all = λ p b events room. (equal _, equal _);
+      minute-of = λ b q. equal _;
+      ended = λ p b. equal _;
       verdict-of = λ p b. equal _;
+      judge = λ p b list. equal _;
+      judge-list = λ p b list count. equal _;
       test = λ p r r′. one-answer;
+      blank = equal _;
+      plan-line = λ number place. equal _;
+      numbers-line = λ a b c d. equal _;
+      event-line = λ event taken. equal _;
+      reply-line = λ event number. equal _;
+      test-line = λ a. equal _;
+      board-line = λ b reply. equal _;
+      point-line = λ point pond place. equal _;
+      tail-line = equal _;
+      end-line = λ p b. equal _;
     }

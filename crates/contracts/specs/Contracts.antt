@@ -1,10 +1,11 @@
--- Document 01, "How firm the contracts are": for each open function of `points`, `plan`, `board` and `vee`, in the order of
--- docs/CONTRACTS.md, what its contract permits, and that this is a single reply for each argument. Assumes nothing.
+-- Document 01, "How firm the contracts are": for each open function of the libraries, in the order of docs/CONTRACTS.md, what
+-- its contract permits, and that this is a single reply for each argument. Assumes nothing.
 use mathlib.Core.Path.{_≡_}
 use mathlib.Core.Bool.{Bool}
-use mathlib.Core.List.{List}
+use mathlib.Core.List.{List, []}
 use Prim.Native.Nat.{ℕ}
 use lib.IntN.{ℤ}
+use lib.ListN.{take}
 use Rattle.points.specs.Sets.{member, withOf, withoutOf, countOf, firstOf, belowOf, subsetOf}
 use Rattle.plan.specs.APlan.{points, watched, endsAt, placeOf, gapOf, recordsOf}
 use Rattle.plan.specs.ReplyNumbers.{readOf, checkOf, writeOf, writtenOf}
@@ -13,17 +14,25 @@ use Rattle.plan.specs.declared.Gap.{Gap}
 use Rattle.plan.specs.declared.Found.{Found}
 use Rattle.plan.specs.declared.Reading.{Reading}
 use Rattle.plan.specs.declared.Refusal.{Refusal}
-use Rattle.board.specs.Boards.{fresh}
+use Rattle.bounds.specs.Bounds.{boundKept, bothIn}
+use Rattle.bounds.specs.declared.Bound.{Bound}
+use Rattle.board.specs.Boards.{fresh, minute}
 use Rattle.board.specs.Replies.{replyOf}
 use Rattle.board.specs.Events.{takeOf}
 use Rattle.board.specs.Streams.{takeAllOf, saidAllOf}
-use Rattle.board.specs.Verdicts.{verdictOf}
+use Rattle.board.specs.Verdicts.{endedOf, verdictOf}
 use Rattle.board.specs.declared.Board.{Board}
 use Rattle.board.specs.declared.Reply.{Reply}
 use Rattle.board.specs.declared.Taken.{Taken}
 use Rattle.board.specs.declared.Verdict.{Verdict}
+use Rattle.lent.specs.Judgement.{judgeOf}
+use Rattle.lent.specs.declared.Judged.{Judged}
 use Rattle.vee.specs.PlanTest.{Tested}
 use Rattle.vee.specs.declared.Answer.{Answer}
+use Rattle.board.specs.declared.Place.{Place}
+use Rattle.text.specs.Text.{lineOf}
+use Rattle.text.specs.Lines.{planLine, numbersLine, eventLine, replyLine, testLine, boardLine, pointLine, tailLine, endLine}
+use Rattle.text.specs.declared.Line.{Line}
 
 -- what is permitted has at most one instance
 abbrev pub Single : {A : Type 0} → (A → Type 0) → Type 0
@@ -50,12 +59,31 @@ pub record SingleReplies : Type 0 where
   pub points-of : (p : Plan) → Single (λ (r : ℕ). r ≡ points (recordsOf p))
   pub link-to : (p : Plan) (q : ℕ) → Single (λ (r : Found). r ≡ placeOf (endsAt q) (recordsOf p))
   pub is-watched : (p : Plan) (q : ℕ) → Single (λ (r : Bool). r ≡ watched (recordsOf p) q)
+  -- bounds
+  pub bound-kept : (x : ℕ) (d : ℤ) (y : ℕ) → Single (λ (r : Bool). r ≡ boundKept x d y)
+  pub both-in : (n x y : ℕ) → Single (λ (r : Bool). r ≡ bothIn n x y)
   -- board
   pub fresh : Single (λ (r : Board). r ≡ fresh)
   pub reply-of : (p : Plan) (b : Board) → Single (λ (r : Reply). r ≡ replyOf p b)
-  pub take : (p : Plan) (b : Board) (event : List ℕ) → Single (λ (r : Taken). r ≡ takeOf p b event)
+  pub take-event : (p : Plan) (b : Board) (event : List ℕ) → Single (λ (r : Taken). r ≡ takeOf p b event)
   pub take-all : (p : Plan) (b : Board) (events room : List ℕ)
       → SingleBoth (λ (r : Taken). r ≡ takeAllOf p b events room) (λ (held : List ℕ). held ≡ saidAllOf p b events room)
+  pub minute-of : (b : Board) (q : ℕ) → Single (λ (r : ℕ). r ≡ minute b q)
+  pub ended : (p : Plan) (b : Board) → Single (λ (r : Refusal). r ≡ endedOf p b)
   pub verdict-of : (p : Plan) (b : Board) → Single (λ (r : Verdict). r ≡ verdictOf p b)
+  -- lent
+  pub judge : (p : Plan) (b : Board) (list : List Bound) → Single (λ (r : Judged). r ≡ judgeOf p b list)
+  pub judge-list : (p : Plan) (b : Board) (list : List Bound) (count : ℕ) → Single (λ (r : Judged). r ≡ judgeOf p b (take count list))
   -- vee
   pub test : (p : Plan) → Single (λ (r : Answer). Tested p r)
+  -- text
+  pub blank : Single (λ (r : Line). r ≡ lineOf [])
+  pub plan-line : (number place : ℕ) → Single (λ (r : Line). r ≡ planLine number place)
+  pub numbers-line : (a b c d : ℕ) → Single (λ (r : Line). r ≡ numbersLine a b c d)
+  pub event-line : (event : ℕ) (taken : Taken) → Single (λ (r : Line). r ≡ eventLine event taken)
+  pub reply-line : (event number : ℕ) → Single (λ (r : Line). r ≡ replyLine event number)
+  pub test-line : (a : Answer) → Single (λ (r : Line). r ≡ testLine a)
+  pub board-line : (b : Board) (reply : Reply) → Single (λ (r : Line). r ≡ boardLine b reply)
+  pub point-line : (point pond : ℕ) (place : Place) → Single (λ (r : Line). r ≡ pointLine point pond place)
+  pub tail-line : Single (λ (r : Line). r ≡ tailLine)
+  pub end-line : (p : Plan) (b : Board) → Single (λ (r : Line). r ≡ endLine p b)

@@ -1,0 +1,2 @@
+-- Each contract permits a single reply.
+pub mod SingleReply

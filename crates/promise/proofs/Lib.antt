@@ -1,4 +1,5 @@
--- The theorems of the promise, for later crates to cite: `yes-finishes` and `yes-promised` of `TestYes`; `executor` of
+-- The theorems of the promise, for later crates to cite: `yes-finishes` and `yes-promised` of `TestYes`; `yes-ends` of `Ends`,
+-- how the programs end; `executor` of
 -- `Executor`; `happening-accepted`, `happened-promised` and `finishes` of `Play`; `at-durations` of `Lasting`;
 -- `some-players` of `Players`; and the haul of document 01 as an instance, in `Haul`. The others lead up to these.
 pub mod Nets
@@ -13,3 +14,4 @@ pub mod Play
 pub mod Lasting
 pub mod TestYes
 pub mod Haul
+pub mod Ends

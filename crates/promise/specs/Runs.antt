@@ -23,6 +23,11 @@ pub data Run (p : Plan) : Board → ℕ → Type 0 where
   start : Run p fresh 0
   next : {b : Board} {k : ℕ} (s : List ℕ) → Run p b k → All IsByte s → takeOf p b s .number ≡ 0 → Run p (takeOf p b s .board) (suc k)
 
+-- the board b is reached by some events
+pub record Reached (p : Plan) (b : Board) : Type 0 where
+  pub events : ℕ
+  pub run : Run p b events
+
 -- what is promised of the board b after k events of the plan p
 pub record Promised (p : Plan) (b : Board) (k : ℕ) : Type 0 where
   pub sound : sound (recordsOf p) b ≡ true

@@ -79,19 +79,23 @@ pointLine i pond p = said (Name pointWord) (Number i ∷ Number pond ∷ statePi
 abbrev pub tailLine : Line
 tailLine = said (Name tailWord) []
 
+-- end and a word
+abbrev pub endWith : ℕ → Line
+endWith w = said (Name endWord) (Name w ∷ [])
+
 -- end kept, end broken N
 abbrev pub verdictLine : Verdict → Line
-verdictLine verdict.Kept = said (Name endWord) (Name keptWord ∷ [])
+verdictLine verdict.Kept = endWith keptWord
 verdictLine (verdict.Broken n) = said (Name endWord) (Name brokenWord ∷ Number n ∷ [])
-verdictLine (verdict.Refused n i) = said (Name endWord) (Name openWord ∷ [])
+verdictLine (verdict.Refused n i) = endWith openWord
 
 -- a finished board ends by its verdict; a stuck one is stuck; any other is open
 abbrev pub endFor : Outcome → Verdict → Line
 endFor outcome.Finished v = verdictLine v
-endFor outcome.Stuck v = said (Name endWord) (Name stuckWord ∷ [])
-endFor outcome.Waiting v = said (Name endWord) (Name openWord ∷ [])
-endFor outcome.Offers v = said (Name endWord) (Name openWord ∷ [])
-endFor (outcome.Refused n i) v = said (Name endWord) (Name openWord ∷ [])
+endFor outcome.Stuck v = endWith stuckWord
+endFor outcome.Waiting v = endWith openWord
+endFor outcome.Offers v = endWith openWord
+endFor (outcome.Refused n i) v = endWith openWord
 
 -- how a sheet ends
 abbrev pub endLine : Plan → Board → Line

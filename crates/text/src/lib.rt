@@ -6,8 +6,8 @@ ghost use mathlib.Core.List.{[], _∷_};
 ghost use Prim.Native.Nat.{_≤_};
 ghost use lib.ListN.{length, take};
 ghost use Rattle.text.specs.Text.{lineOf, letters, decimal, pieceText, textOf};
-ghost use Rattle.text.specs.Lines.{said, planLine, eventLine, replyLine, testLine, boardLine, pointLine, tailLine, verdictLine, endLine, numbersLine};
-ghost use Rattle.text.specs.Words.{testWord, pairWord, endWord};
+ghost use Rattle.text.specs.Lines.{said, planLine, eventLine, replyLine, testLine, boardLine, pointLine, tailLine, endWith, verdictLine, endLine, numbersLine};
+ghost use Rattle.text.specs.Words.{testWord, pairWord};
 ghost use Rattle.text.specs.Inside.{with, RoomFor};
 ghost use Rattle.text.specs.declared.Piece.the-variants.{Name, Number};
 use board::Board;
@@ -350,7 +350,7 @@ pub fn tail_line() -> Line
 
 // `end` and a word.
 fn end_word(word: u64) -> Line
-    ensures { λ l. ⌜ l ≡ said (Name endWord) (Name word ∷ []) ⌝ }
+    ensures { λ l. ⌜ l ≡ endWith word ⌝ }
 {
     line_of(
         Piece::Name(END),

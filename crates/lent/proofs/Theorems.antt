@@ -1,8 +1,8 @@
 -- What the verdict over a lent list answers: 8 before anything broken, then the first broken bound, then kept; and that on
 -- the plan's own ordinary records it agrees with the plan's verdict. Each assumes that nothing is refused before the list
 -- (`endedOf p b .number ≡ 0`): then the plan is accepted and the board sound and finished.
-use mathlib.Core.Path.{_≡_, refl, _∙_, ap}
-use mathlib.Core.Bool.{Bool, true, false}
+use mathlib.Core.Path.{_≡_, refl, sym, _∙_, ap}
+use mathlib.Core.Bool.{Bool, true, false, true≢false}
 use mathlib.Core.List.{List, [], _∷_}
 use Prim.Native.Nat.{ℕ, zero, suc, _+_, _<_}
 use native.Mathlib.Omega.{arith}
@@ -136,6 +136,35 @@ ordinaries-so so (x ∷ xs) h = go (is ordinary x) refl (ordinaries-so so xs (λ
     go true e a = record { all = more (h 0 (omega arith) e) a }
     go false e a = a
 
+so-ordinaries : (so : Bound → Bool) (xs : List Record) → All so (ordinaries xs) → (k : ℕ) → k < length xs → is ordinary (getD xs k blank) ≡ true
+    → so (record { from = getD xs k blank .a; to = getD xs k blank .b; bound = getD xs k blank .first }) ≡ true
+unfolding ordinaries
+so-ordinaries so [] a k l o = absurd (omega (arith, l))
+so-ordinaries so (x ∷ xs) a zero l o = (rw o at a) .all 0 (omega arith)
+so-ordinaries so (x ∷ xs) a (suc k) l o = so-ordinaries so xs (rest (is ordinary x) a) k (omega (arith, l)) o
+  where
+    rest : (t : Bool) → All so (if_then_else_ {A = List Bound} t (record { from = x .a; to = x .b; bound = x .first } ∷ ordinaries xs) (ordinaries xs)) → All so (ordinaries xs)
+    rest true a = record { all = λ k l. a .all (suc k) (omega (arith, l)) }
+    rest false a = a
+
+abbrev isKept : Judged → Bool
+isKept (Refused k j) = false
+isKept Kept = true
+isKept (Broken j) = false
+
+kept-means : (b : Board) (i : ℕ) (xs : List Bound) → firstNot (keptOn b) Broken Kept i xs ≡ Kept → All (keptOn b) xs
+unfolding firstNot
+kept-means b i [] e = record { all = λ k l. absurd (omega (arith, l)) }
+kept-means b i (x ∷ xs) e = go (keptOn b x) refl (kept-means b (suc i) xs) e
+  where
+    more : keptOn b x ≡ true → All (keptOn b) xs → (k : ℕ) → k < length (x ∷ xs) → keptOn b (getD (x ∷ xs) k none) ≡ true
+    more f a zero l = f
+    more f a (suc k) l = a .all k (omega (arith, l))
+
+    go : (t : Bool) → keptOn b x ≡ t → (firstNot (keptOn b) Broken Kept (suc i) xs ≡ Kept → All (keptOn b) xs) → (if t then firstNot (keptOn b) Broken Kept (suc i) xs else Broken i) ≡ Kept → All (keptOn b) (x ∷ xs)
+    go true f next e = record { all = more f (next e) }
+    go false f next e = absurd (true≢false (ap isKept (sym e)))
+
 module _ (p : Plan) (b : Board) (ok : endedOf p b .number ≡ 0) where
   known : Accepted (recordsOf p)
   known = accepted-plan p (ended-accepted p b ok)
@@ -146,11 +175,21 @@ module _ (p : Plan) (b : Board) (ok : endedOf p b .number ≡ 0) where
       let q = known .each k l .names (ne-eqb (r .kind) 1 (λ e. omega (arith, e, eqb-true (r .kind) 3 o))) in
       rw (lt-ltb (r .a) (points (recordsOf p)) (q .0), lt-ltb (r .b) (points (recordsOf p)) (q .1)) refl)
 
+  own-answer : judgeOf p b (ordinaries (recordsOf p)) ≡ firstNot (keptOn b) Broken Kept 0 (ordinaries (recordsOf p))
+  unfolding judgeOf
+  own-answer = rw ok (all-so (named p b ok) (Refused 8) _ 0 (ordinaries (recordsOf p)) own-named)
+
   -- On the plan's own ordinary records the list's verdict and the plan's agree.
   pub own-agrees : Agree (recordsOf p) 0 0 (verdictOf p b) (judgeOf p b (ordinaries (recordsOf p)))
-  unfolding verdictOf judgeOf
-  own-agrees = rw (ok, all-so (named p b ok) (Refused 8) (firstNot (keptOn b) Broken Kept 0 (ordinaries (recordsOf p))) 0 (ordinaries (recordsOf p)) own-named) (agree (recordsOf p) b 0 0 (recordsOf p))
+  unfolding verdictOf
+  own-agrees = rw (own-answer, ok) (agree (recordsOf p) b 0 0 (recordsOf p))
 
-  -- Where every ordinary record is kept the list's verdict is kept.
-  pub own-kept : ((k : ℕ) → k < length (recordsOf p) → is ordinary (getD (recordsOf p) k blank) ≡ true → ordinaryKept b (getD (recordsOf p) k blank) ≡ true) → judgeOf p b (ordinaries (recordsOf p)) ≡ Kept
+  -- The list's verdict is kept exactly where every ordinary record is.
+  abbrev pub EveryKept : Type 0
+  EveryKept = (k : ℕ) → k < length (recordsOf p) → is ordinary (getD (recordsOf p) k blank) ≡ true → ordinaryKept b (getD (recordsOf p) k blank) ≡ true
+
+  pub own-kept : EveryKept → judgeOf p b (ordinaries (recordsOf p)) ≡ Kept
   own-kept h = kept-all p b ok (ordinaries (recordsOf p)) own-named (ordinaries-so (keptOn b) (recordsOf p) h)
+
+  pub kept-own : judgeOf p b (ordinaries (recordsOf p)) ≡ Kept → EveryKept
+  kept-own e = so-ordinaries (keptOn b) (recordsOf p) (kept-means b 0 (ordinaries (recordsOf p)) (sym own-answer ∙ e))

@@ -1,5 +1,6 @@
 -- `bounds::bound_kept` meets its contract. Assumes nothing.
 use borrow.Author.Needs.{needs}
+use native.Mathlib.Omega.{arith}
 use mir.Syntax.{w32}
 use mir.ValLaws.{toZ-ofZ}
 use Rattle.bounds.proofs.bound_kept.Statement.{statement}
@@ -15,7 +16,7 @@ wide-requires-2 : tie.Need-wide-requires-2
 wide-requires-2 c κs = search needs
 
 add-result : tie.Need-add-result
-add-result c = search needs
+add-result c = record { fits = omega (arith, c .wide2 .ensures, c .before .wide .ensures) }
 
 wide-requires-3 : tie.Need-wide-requires-3
 wide-requires-3 c κs = search needs
@@ -24,7 +25,7 @@ wide-requires-4 : tie.Need-wide-requires-4
 wide-requires-4 c κs = search needs
 
 add-result-2 : tie.Need-add-result-2
-add-result-2 c = search needs
+add-result-2 c = record { fits = omega (arith, c .wide4 .ensures, c .before .wide3 .ensures) }
 
 returns : tie.Need-returns
 returns c =

@@ -73,7 +73,7 @@ yes-ends {p} t b r = go (replyOf p b .outcome) refl
 
     go : (o : Outcome) → replyOf p b .outcome ≡ o
         → (endFor o (verdictOf p b) ≡ endWith keptWord) ⊎ (endFor o (verdictOf p b) ≡ endWith openWord)
-    go (Refused n i) e = absurd (m .answered n i e)
+    go (Refused n i) e = inr refl
     go Finished e = inl (ap verdictLine (m .kept (all-done (recordsOf p) b (sym (outcome-is p (yes-accepted t) b (m .sound)) ∙ e))))
     go Stuck e = absurd (m .free e)
     go Waiting e = inr refl

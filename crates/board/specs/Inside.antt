@@ -12,12 +12,14 @@ use Rattle.plan.specs.Limits.{mostPoints, recordBytes}
 use Rattle.plan.specs.APlan.{link, ordinary, wait, is, watched, linkTo, gapOf}
 use Rattle.plan.specs.PlanFile.{wordAt}
 use Rattle.plan.specs.declared.Record.{Record}
-use Rattle.board.specs.Boards.{minute, shortest, longest, each}
+use Rattle.board.specs.Boards.{minute, shortest, longest, running, inBounds, each}
 use Rattle.board.specs.Windows.{isOpen, low, someOpen}
 use Rattle.board.specs.Replies.{latest}
 use Rattle.board.specs.Events.{eventMinute, eventPoint, eventSet, noPoint, endsRunning, inTime, notLate, markAll, eventNumber, boardAfter, taken}
 use Rattle.board.specs.Verdicts.{ordinaryKept}
 use Rattle.board.specs.declared.Board.{Board}
+use Rattle.board.specs.declared.each.Ask.{Ask}
+use Rattle.board.specs.declared.each.Ask.the-variants.{InBounds, NotRunning, NotLate}
 use Rattle.board.specs.declared.events.Event.{Event}
 use Rattle.board.specs.declared.links.End.{End}
 use Rattle.board.specs.declared.links.Links.{Links}
@@ -122,3 +124,10 @@ clockAt t b = record { clock = t; done = b .done; minutes = b .minutes }
 abbrev pub afterEvent : Board → Event → Board
 afterEvent b e =
     markAll (e .minute) (membersOf (e .set) ++ (if eqb (e .point) noPoint then [] else (e .point ∷ []))) (clockAt (e .minute) b)
+
+-- ---- what is asked of every record
+
+abbrev pub asked : Board → Ask → Record → Bool
+asked b InBounds r = inBounds b r
+asked b NotRunning r = not (running b r)
+asked b (NotLate t ended) r = notLate b t ended r

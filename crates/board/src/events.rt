@@ -26,10 +26,11 @@ use crate::TOO_EARLY;
 use crate::TOO_LATE;
 use crate::Taken;
 use crate::UNSOUND;
+use crate::each::Ask;
+use crate::each::every_record;
 use crate::links::End;
 use crate::links::Links;
 use crate::links::links_of;
-use crate::links::used;
 use crate::replies::is_finished;
 use crate::replies::is_stuck;
 use crate::replies::latest_of;
@@ -146,7 +147,7 @@ fn all_in_time(board: Board, links: Links, t: u32, set: u32) -> bool
 }
 
 // 27 is not given for one record.
-fn not_late(board: Board, t: u32, set: u32, r: Record) -> bool
+pub(crate) fn not_late(board: Board, t: u32, set: u32, r: Record) -> bool
     ensures { λ x. ⌜ x ≡ notLate board t set r ⌝ }
 {
     if r.kind != LINK {
@@ -162,16 +163,7 @@ fn not_late(board: Board, t: u32, set: u32, r: Record) -> bool
 fn none_late(plan: Plan, board: Board, t: u32, set: u32) -> bool
     ensures { λ x. ⌜ x ≡ each (notLate board t set) (recordsOf plan) ⌝ }
 {
-    let n = used(plan.count);
-    let mut i: usize = 0;
-    while i < n {
-        let r = plan.records[i];
-        if !not_late(board, t, set, r) {
-            return false;
-        }
-        i += 1;
-    }
-    true
+    every_record(plan, board, Ask::NotLate(t, set))
 }
 
 // 24 to 27 in order, or else `next`.

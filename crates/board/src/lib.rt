@@ -5,6 +5,7 @@ ghost use mathlib.Core.Path.{_≡_};
 ghost use Rattle.board.specs.Boards.{fresh};
 ghost use Rattle.board.specs.Verdicts.{endedOf, verdictOf};
 
+mod each;
 mod events;
 mod judging;
 mod links;

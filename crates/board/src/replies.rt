@@ -20,8 +20,9 @@ use crate::ROOM;
 use crate::Reply;
 use crate::State;
 use crate::UNSOUND;
+use crate::each::Ask;
+use crate::each::every_record;
 use crate::links::links_of;
-use crate::links::used;
 use crate::sound::all_points;
 use crate::sound::is_sound;
 use crate::windows::Windows;
@@ -46,7 +47,7 @@ pub(crate) fn is_finished(plan: Plan, board: Board) -> bool
 }
 
 // A link is running: A done, C not.
-fn is_running(board: Board, r: Record) -> bool
+pub(crate) fn is_running(board: Board, r: Record) -> bool
     ensures { λ t. ⌜ t ≡ running board r ⌝ }
 {
     (r.kind == LINK) & (has(board.done, r.a) & !has(board.done, r.b))
@@ -56,16 +57,7 @@ fn is_running(board: Board, r: Record) -> bool
 fn none_running(plan: Plan, board: Board) -> bool
     ensures { λ t. ⌜ t ≡ not (some (running board) (recordsOf plan)) ⌝ }
 {
-    let count = used(plan.count);
-    let mut i: usize = 0;
-    while i < count {
-        let r = plan.records[i];
-        if is_running(board, r) {
-            return false;
-        }
-        i += 1;
-    }
-    true
+    every_record(plan, board, Ask::NotRunning)
 }
 
 // A Low is above H, which is 100,000 up.

@@ -7,7 +7,8 @@ ghost use Rattle.plan.specs.APlan.{points, recordsOf};
 ghost use Rattle.board.specs.Boards.{minute, fits, inBounds, each, largest, sound};
 use crate::Board;
 use crate::FARTHEST;
-use crate::links::used;
+use crate::each::Ask;
+use crate::each::every_record;
 use plan::LINK;
 use plan::Plan;
 use plan::Record;
@@ -97,7 +98,7 @@ fn last_done(board: Board) -> u32
 }
 
 // Where a link's C is done, A is done and the duration is in bounds; a running link has A + y ≥ clock.
-fn in_bounds(board: Board, r: Record) -> bool
+pub(crate) fn in_bounds(board: Board, r: Record) -> bool
     ensures { λ t. ⌜ t ≡ inBounds board r ⌝ }
 {
     if r.kind != LINK {
@@ -118,16 +119,7 @@ fn in_bounds(board: Board, r: Record) -> bool
 fn all_in_bounds(plan: Plan, board: Board) -> bool
     ensures { λ t. ⌜ t ≡ each (inBounds board) (recordsOf plan) ⌝ }
 {
-    let n = used(plan.count);
-    let mut i: usize = 0;
-    while i < n {
-        let r = plan.records[i];
-        if !in_bounds(board, r) {
-            return false;
-        }
-        i += 1;
-    }
-    true
+    every_record(plan, board, Ask::InBounds)
 }
 
 pub(crate) fn is_sound(plan: Plan, board: Board) -> bool

@@ -1,19 +1,19 @@
--- `board::sound::all_in_bounds` meets its contract. Assumes nothing.
+-- `board::each::every_record` meets its contract. Assumes nothing.
 use borrow.Author.Needs.{needs}
 use mathlib.Core.Path.{sym, _∙_}
 use borrow.Author.Tests.{not-true, not-false}
 use Prim.Native.Nat.{_-_}
 use lib.ListN.{length-map}
 use Rattle.board.proofs.Walks.{Left, left-start, left-fails, left-turn, left-end}
-use Rattle.board.specs.Boards.{inBounds}
-use Rattle.board.proofs.sound.all_in_bounds.Statement.{statement}
-use Rattle.board.proofs.sound.all_in_bounds.Tie as tie
+use Rattle.board.specs.Inside.{asked}
+use Rattle.board.proofs.each.every_record.Statement.{statement}
+use Rattle.board.proofs.each.every_record.Tie as tie
 
 abbrev Inv-loop : tie.InvT-loop
-Inv-loop board plan n i₀ i = Left (inBounds board) plan n i
+Inv-loop board ask plan n i₀ i = Left (asked board ask) plan n i
 
 abbrev μ-loop : tie.MeasureT-loop
-μ-loop board plan n i₀ i = n - i
+μ-loop board ask plan n i₀ i = n - i
 
 used-requires : tie.Need-used-requires Inv-loop μ-loop
 used-requires c κs = search needs
@@ -27,13 +27,13 @@ mul-r c = search needs
 element-copy-out-r : tie.Need-element-copy-out-r Inv-loop μ-loop
 element-copy-out-r c = search needs
 
-in-bounds-requires : tie.Need-in-bounds-requires Inv-loop μ-loop
-in-bounds-requires c κs = search needs
+is-so-requires : tie.Need-is-so-requires Inv-loop μ-loop
+is-so-requires c κs = search needs
 
 returns : tie.Need-returns Inv-loop μ-loop
 returns c =
     let l = c .before .before .before .before .loop in
-    left-fails _ _ _ (l .i) (l .inv) (c .before .before .before .loop-test .taken) (sym (c .before .in-bounds .ensures) ∙ not-true _ (c .if1 .taken))
+    left-fails _ _ _ (l .i) (l .inv) (c .before .before .before .loop-test .taken) (sym (c .before .is-so .ensures) ∙ not-true _ (c .if1 .taken))
 
 add-i : tie.Need-add-i Inv-loop μ-loop
 add-i c = search needs
@@ -44,13 +44,13 @@ loop-less c = search needs
 loop-again : tie.Need-loop-again Inv-loop μ-loop
 loop-again c =
     let l = c .before .before .before .before .loop in
-    left-turn _ _ _ (l .i) (l .inv) (c .before .before .before .loop-test .taken) (sym (c .before .in-bounds .ensures) ∙ not-false _ (c .if1 .left))
+    left-turn _ _ _ (l .i) (l .inv) (c .before .before .before .loop-test .taken) (sym (c .before .is-so .ensures) ∙ not-false _ (c .if1 .left))
 
 returns-2 : tie.Need-returns-2 Inv-loop μ-loop
 returns-2 c = left-end _ _ _ _ (c .before .loop .inv) (c .loop-test .left)
 
-pub all-in-bounds-spec : {M : Type 1} → statement M
-all-in-bounds-spec =
+pub every-record-spec : {M : Type 1} → statement M
+every-record-spec =
     tie.close
     (tie.spec
     Inv-loop
@@ -59,7 +59,7 @@ all-in-bounds-spec =
     loop-holds
     mul-r
     element-copy-out-r
-    in-bounds-requires
+    is-so-requires
     returns
     add-i
     loop-less

@@ -1,6 +1,7 @@
 // The verdict over a lent list of ordinary constraints, each two points and a bound. Document 01, "Verdict and plan test".
-// `judge` alone takes the list as it is lent, a slice of structs, and is proved by hand: it goes down the list and leaves
-// the work to functions on plain values. Every open function takes any plan, any board and any list and answers.
+// `judge` takes the list as it is lent, a slice of structs: it goes down the list and leaves the work to functions on plain
+// values. `judge_list` lends it one. These two are proved by hand. Every open function takes any plan, any board and any
+// list and answers.
 ghost use mathlib.Core.Path.{_≡_};
 ghost use Prim.Native.Nat.{min};
 ghost use lib.ListN.{take};
@@ -16,6 +17,9 @@ use plan::ACCEPTED;
 use plan::NOT_NAMED;
 use plan::Plan;
 use plan::points_of;
+
+// How many bounds a list by value has room for.
+pub const LIST_ROOM: usize = 4096;
 
 // What judging a list answers: a reply number with the place that it is about, kept, or the place of the first broken
 // bound. Places in the list are counted from 0.
@@ -120,9 +124,6 @@ pub fn judge(plan: Plan, board: Board, list: &[Bound]) -> Judged
     }
     so_far.answer
 }
-
-// How many bounds a list by value has room for.
-pub const LIST_ROOM: usize = 4096;
 
 // How many of a list's bounds count, where `count` of them are said to.
 fn listed(count: usize) -> usize

@@ -1,6 +1,5 @@
 -- `bounds::both_in` meets its contract. Assumes nothing.
 use mathlib.Core.Path.{refl}
-use borrow.Author.Needs.{needs}
 use Rattle.bounds.proofs.both_in.Statement.{statement}
 use Rattle.bounds.proofs.both_in.Tie as tie
 

@@ -508,7 +508,8 @@ fn unnamed_bound(draw: &mut Draw, plan: &Plan) -> Bound {
     }
 }
 
-/// A list: kept, or with broken bounds, bounds that name no point of the plan, or both, most of them near an end.
+/// A list: kept, or with broken bounds, bounds that name no point of the plan, or both,
+/// most of them near an end or at the end of the room for a list.
 fn list(draw: &mut Draw, plan: &Plan, at: &Board) -> Vec<Bound> {
     let long = draw.one_in(12);
     let length = match draw.below(8) {
@@ -520,7 +521,7 @@ fn list(draw: &mut Draw, plan: &Plan, at: &Board) -> Vec<Bound> {
     let mut bounds: Vec<Bound> = (0..length).map(|_| kept_bound(draw, plan, at)).collect();
     let place = |draw: &mut Draw| match draw.below(3) {
         0 => draw.below(length),
-        1 => length.min(LIST) - 1 - draw.below(length.min(2)),
+        1 => length.min(LIST + 1) - 1 - draw.below(length.min(2)),
         _ => draw.below(length.min(3)),
     };
     let spoiled = if length == 0 { 0 } else { draw.below(4) };

@@ -15,6 +15,7 @@ typedef int64_t i64;
 
 enum { POINTS = 32, LINKS = 8, ORDINARIES = 256, WAITS = 64, RECORDS = 360, RECORD = 16, FARTHEST = 100000 };
 enum { POINT = 1, LINK, ORDINARY, WAIT };
+enum { LISTED = 4096, SAID = 3, STREAM_ROOM = 12288 };
 
 typedef struct { u8 kind, a, b; i32 first, second; u32 code; } record;
 typedef struct { u32 count; record records[RECORDS]; } plan;
@@ -301,13 +302,33 @@ static refusal take(const plan *p, board *b, const u8 *e, size_t length) {
     return found;
 }
 
+// The whole events of some bytes one after the other, as far as there is room to say three numbers of each.
+static refusal take_all(const plan *p, board *b, const u8 *events, size_t length, u32 *room, size_t numbers) {
+    refusal found = check(p);
+    if (found.number) return found;
+    if (!is_sound(p, b)) return (refusal){20, 0};
+    for (size_t i = 0; RECORD * (i + 1) <= length && SAID * (i + 1) <= numbers; i++) {
+        u32 *said = room + SAID * i;
+        said[0] = take(p, b, events + RECORD * i, RECORD).number;
+        said[1] = b->clock;
+        said[2] = b->done;
+    }
+    return found;
+}
+
 // --- The verdict: kept is number 0, broken 100 with the record ---
 
-static refusal verdict_of(const plan *p, const board *b) {
+static refusal ended(const plan *p, const board *b) {
     refusal found = check(p);
     if (found.number) return found;
     if (!is_sound(p, b)) return (refusal){20, 0};
     if (b->done != below(points_of(p))) return (refusal){31, 0};
+    return found;
+}
+
+static refusal verdict_of(const plan *p, const board *b) {
+    refusal found = ended(p, b);
+    if (found.number) return found;
     links l;
     links_of(p, &l);
     for (u32 i = 0; i < p->count; i++) {
@@ -319,6 +340,20 @@ static refusal verdict_of(const plan *p, const board *b) {
             i64 least = r->first < to - from ? r->first : to - from;
             if (at - from < least) return (refusal){100, i};
         }
+    }
+    return found;
+}
+
+// The verdict over a list, eight bytes a bound: two points, two bytes for nothing and a signed number.
+static refusal judge_list(const plan *p, const board *b, const u8 *list, size_t length) {
+    refusal found = ended(p, b);
+    if (found.number) return found;
+    u32 points = points_of(p), count = length / 8 < LISTED ? length / 8 : LISTED;
+    for (u32 i = 0; i < count; i++)
+        if (list[8 * i] >= points || list[8 * i + 1] >= points) return (refusal){8, i};
+    for (u32 i = 0; i < count; i++) {
+        i64 at = b->minutes[list[8 * i]], to = b->minutes[list[8 * i + 1]];
+        if (to - at > (i32)word_at(list + 8 * i + 4)) return (refusal){100, i};
     }
     return found;
 }
@@ -559,7 +594,25 @@ static plan *coded(plan *p, u32 code) {
     return p;
 }
 
-static void call(u8 asked) {
+static void say_board(u32 asked) {
+    say(asked, desk_board.clock, desk_board.done, 0);
+    const u32 *m = desk_board.minutes;
+    for (u32 k = 0; k < POINTS; k += 4) say(m[k], m[k + 1], m[k + 2], m[k + 3]);
+}
+
+// A stream with a room of so many numbers, each x before; the sum is over all of them.
+static void stream(u32 numbers, u32 x) {
+    static u32 room[STREAM_ROOM];
+    if (numbers > STREAM_ROOM) numbers = STREAM_ROOM;
+    for (u32 i = 0; i < numbers; i++) room[i] = x;
+    refusal found = take_all(&desk_plan, &desk_board, buffer, buffer_length, room, numbers);
+    u32 sum = 0;
+    for (u32 i = 0; i < numbers; i++) sum = mixed(sum, room[i]);
+    say(24, found.number, found.place, sum);
+    say_board(24);
+}
+
+static void call(u8 asked, u32 first, u32 second) {
     plan p = desk_plan;
     u32 sum = 0;
     if (asked == 16) {
@@ -581,9 +634,7 @@ static void call(u8 asked) {
         }
         refusal found = take(&desk_plan, &desk_board, buffer, buffer_length);
         say(17, found.number, found.place, sum);
-        say(17, desk_board.clock, desk_board.done, 0);
-        const u32 *m = desk_board.minutes;
-        for (u32 k = 0; k < POINTS; k += 4) say(m[k], m[k + 1], m[k + 2], m[k + 3]);
+        say_board(17);
     } else if (asked == 18) {
         for (u32 k = 0; k < times; k++) {
             refusal v = verdict_of(coded(&p, k), &desk_board);
@@ -612,6 +663,11 @@ static void call(u8 asked) {
         refusal found = read_plan(buffer, buffer_length, &p);
         say(22, found.number, found.place, sum);
         say(22, p.count, sum_of_plan(&p), 0);
+    } else if (asked == 23) {
+        refusal found = judge_list(&desk_plan, &desk_board, buffer, buffer_length);
+        say(23, found.number, found.place, 0);
+    } else if (asked == 24) {
+        stream(first, second);
     } else say(asked, 0, 0, 0);
 }
 
@@ -632,7 +688,7 @@ static void probe(void) {
         case 5: memset(buffer, b[1], sizeof buffer), buffer_length = first < sizeof buffer ? first : sizeof buffer; break;
         case 6: set_word(first, second), set_word(first + 4, third); break;
         case 7: times = first; break;
-        default: call(b[0]);
+        default: call(b[0], first, second);
         }
     }
     flush();

@@ -31,7 +31,7 @@ const OFFERS: [&str; 13] = [
 ];
 
 /// What must come up in the answers of the probe, by the number of the call (compare/PROBE.md): `plan` is a refused plan.
-const PROBE: [(&str, &[&str]); 8] = [
+const PROBE: [(&str, &[&str]); 10] = [
     ("16", &["plan", "20", "101", "102", "103", "104"]),
     ("place", &["1", "2", "3", "4", "5"]),
     (
@@ -51,6 +51,8 @@ const PROBE: [(&str, &[&str]); 8] = [
         "22",
         &["0", "1", "2", "3", "4", "5", "6", "7", "8", "9", "10", "11"],
     ),
+    ("23", &["0", "plan", "8", "20", "31", "100"]),
+    ("24", &["0", "plan", "20"]),
 ];
 
 /// What must come up in the lines of a program.
@@ -73,19 +75,26 @@ fn expected(name: &str) -> Vec<String> {
 fn probe_keys(text: &str) -> Vec<String> {
     let mut keys = Vec::new();
     let mut lines = text.lines();
+    // The last check's number: 8 of a list that is judged is the plan's own where the check has refused the plan.
+    let mut checked = "0";
     while let Some(line) = lines.next() {
         let words: Vec<&str> = line.split(' ').collect();
         let [call, number, _, _] = words[..] else {
             keys.push(format!("unknown line {line:?}"));
             continue;
         };
-        let of_plan = matches!(number.parse(), Ok(1..=11)) && !matches!(call, "19" | "22");
+        if call == "19" {
+            checked = number;
+        }
+        let of_list = (call, number, checked) == ("23", "8", "0");
+        let of_plan =
+            matches!(number.parse(), Ok(1..=11)) && !matches!(call, "19" | "22") && !of_list;
         let answer = if of_plan { "plan" } else { number };
         let more = match (call, number) {
             ("16", _) => 32,
-            ("17", _) => 9,
+            ("17" | "24", _) => 9,
             ("21", "103") | ("22", _) => 1,
-            ("18" | "19" | "20" | "21", _) => 0,
+            ("18" | "19" | "20" | "21" | "23", _) => 0,
             // A number that is no call's is answered with itself.
             _ => continue,
         };

@@ -18,6 +18,12 @@ const CHECK: u8 = 19;
 const WRITE: u8 = 20;
 const TEST: u8 = 21;
 const READ: u8 = 22;
+const JUDGE: u8 = 23;
+const STREAM: u8 = 24;
+
+/// So many bounds of a list are judged, and so many numbers a stream's room has at most.
+const LIST: usize = 4_096;
+const STREAM_ROOM: usize = 12_288;
 
 /// Requests one after another.
 #[derive(Default)]
@@ -70,15 +76,17 @@ impl Requests {
     }
 }
 
-/// The batch of this number: every nine hold each kind.
+/// The batch of this number: every eleven hold each kind.
 pub fn batch(draw: &mut Draw, number: u64) -> Vec<Input> {
-    match number % 9 {
+    match number % 11 {
         0..=1 => boards(draw, true),
         2..=3 => boards(draw, false),
         4 => any_plans(draw),
         5 => buffers(draw),
         6 => events_of_any_length(draw),
         7 => tests(draw),
+        8 => lists(draw),
+        9 => streams(draw),
         _ => files(draw),
     }
 }
@@ -341,9 +349,11 @@ fn any_plans(draw: &mut Draw) -> Vec<Input> {
         let event = event_for(draw, &plan, &at);
         requests.buffer(&event, RECORD, 0);
         requests.board(&at);
-        for asked in [CHECK, REPLY, VERDICT, TAKE] {
+        // The check comes first: what is counted of a list's verdict is then known to be the plan's own.
+        for asked in [CHECK, REPLY, VERDICT, JUDGE, TAKE] {
             requests.call(asked);
         }
+        requests.ask(STREAM, [0; 3], [draw.below(9) as u32, 1, 0]);
         let length = draw.pick(&[0, 16 * records.len(), 16 * ROOM]);
         let fill = draw.byte();
         requests.buffer(&[], length, fill);
@@ -440,11 +450,189 @@ fn events_of_any_length(draw: &mut Draw) -> Vec<Input> {
         requests.buffer(&event, length, fill);
         requests.call(TAKE);
     }
-    requests.call(draw.pick(&[8, 15, 23, 255]));
+    requests.call(draw.pick(&[8, 15, 25, 255]));
     vec![Input {
         what: "events of any length".to_string(),
         bytes: requests.0,
     }]
+}
+
+/// One of a list's bounds: two points and how much later the second may come.
+type Bound = (u8, u8, i32);
+
+/// A sound board on which all is done.
+fn finished(draw: &mut Draw, plan: &Plan) -> Board {
+    loop {
+        let at = sound(draw, plan);
+        if at.count() as usize == plan.points() {
+            return at;
+        }
+    }
+}
+
+/// A bound that is kept on a finished board, just so, by far, or as far as a number goes.
+fn kept_bound(draw: &mut Draw, plan: &Plan, at: &Board) -> Bound {
+    let [from, to] = [0; 2].map(|_| draw.below(plan.points()));
+    let gap = (at.minute(to) - at.minute(from)) as i32;
+    let bound = match draw.below(4) {
+        0 | 1 => gap,
+        2 => gap + draw.between(0, 100_000) as i32,
+        _ => i32::MAX,
+    };
+    (from as u8, to as u8, bound)
+}
+
+/// A bound that is broken, by one, by far, or as far as a number goes.
+fn broken_bound(draw: &mut Draw, plan: &Plan, at: &Board) -> Bound {
+    let [from, to] = [0; 2].map(|_| draw.below(plan.points()));
+    let gap = (at.minute(to) - at.minute(from)) as i32;
+    let bound = match draw.below(4) {
+        0 | 1 => gap - 1,
+        2 => gap - 1 - draw.between(0, 100_000) as i32,
+        _ => i32::MIN,
+    };
+    (from as u8, to as u8, bound)
+}
+
+/// A bound with a point that is not in the plan; it may be kept or broken otherwise.
+fn unnamed_bound(draw: &mut Draw, plan: &Plan) -> Bound {
+    let past = plan.points() as u8;
+    let wrong = draw.pick(&[past, past, past.max(31), 32, 33, 254, 255]);
+    let right = draw.below(plan.points()) as u8;
+    let any = draw.next() as i32;
+    let bound = draw.pick(&[0, -1, i32::MIN, i32::MAX, any]);
+    match draw.below(4) {
+        0 => (wrong, wrong, bound),
+        1 => (right, wrong, bound),
+        _ => (wrong, right, bound),
+    }
+}
+
+/// A list: kept, or with broken bounds, bounds that name no point of the plan, or both,
+/// most of them near an end or at the end of the room for a list.
+fn list(draw: &mut Draw, plan: &Plan, at: &Board) -> Vec<Bound> {
+    let long = draw.one_in(12);
+    let length = match draw.below(8) {
+        0 => 0,
+        1 => 1,
+        _ if long => draw.pick(&[LIST - 1, LIST, LIST + 1, 2 * LIST]),
+        _ => draw.below(20),
+    };
+    let mut bounds: Vec<Bound> = (0..length).map(|_| kept_bound(draw, plan, at)).collect();
+    let place = |draw: &mut Draw| match draw.below(3) {
+        0 => draw.below(length),
+        1 => length.min(LIST + 1) - 1 - draw.below(length.min(2)),
+        _ => draw.below(length.min(3)),
+    };
+    let spoiled = if length == 0 { 0 } else { draw.below(4) };
+    for _ in 0..spoiled {
+        let place = place(draw);
+        bounds[place] = if draw.one_in(3) {
+            unnamed_bound(draw, plan)
+        } else {
+            broken_bound(draw, plan, at)
+        };
+    }
+    bounds
+}
+
+/// Lent lists, judged on finished boards most of all.
+fn lists(draw: &mut Draw) -> Vec<Input> {
+    let mut inputs = Vec::new();
+    for _ in 0..4 {
+        let plan = good_plan(draw);
+        let mut requests = Requests::default();
+        requests.plan(&plan);
+        for _ in 0..6 {
+            let mut at = finished(draw, &plan);
+            let bounds = list(draw, &plan, &at);
+            if draw.one_in(6) {
+                one_off(draw, &plan, &mut at);
+            }
+            let mut bytes = Vec::new();
+            for &(from, to, bound) in &bounds {
+                // The two bytes between count for nothing.
+                bytes.extend([from, to, draw.byte(), draw.byte()]);
+                bytes.extend(bound.to_le_bytes());
+            }
+            // Some more bytes are no bound.
+            let counts = bytes.len() + draw.pick(&[0, 0, 1, 7]);
+            requests.board(&at);
+            let fill = draw.pick(&[0, 255]);
+            requests.buffer(&bytes, counts, fill);
+            requests.call(JUDGE);
+            if draw.one_in(8) {
+                let count = draw.pick(&[0, 361, u32::MAX]);
+                requests.ask(1, [0; 3], [count, 0, 0]);
+                requests.call(JUDGE);
+                requests.plan(&plan);
+            }
+        }
+        inputs.push(Input {
+            what: "lent lists".to_string(),
+            bytes: requests.0,
+        });
+    }
+    inputs
+}
+
+/// A stream: good runs with refused events between, or one after another; at times far more events than points.
+fn stream(draw: &mut Draw, plan: &Plan, at: &Board) -> Vec<u8> {
+    let mut at = *at;
+    let mut bytes = Vec::new();
+    let many = if draw.one_in(10) { 600 } else { 24 };
+    for _ in 0..draw.below(many) {
+        let event = event_for(draw, plan, &at);
+        at = event::take(plan, &at, &event).1;
+        bytes.extend(event);
+    }
+    bytes
+}
+
+/// Streams of events, with rooms that are too short, just right or larger, and last events that are not whole.
+fn streams(draw: &mut Draw) -> Vec<Input> {
+    let mut inputs = Vec::new();
+    for _ in 0..4 {
+        let plan = good_plan(draw);
+        let mut requests = Requests::default();
+        requests.plan(&plan);
+        for _ in 0..4 {
+            let mut at = match draw.below(3) {
+                0 => sound(draw, &plan),
+                1 => reached(draw, &plan),
+                _ => Board::fresh(),
+            };
+            let bytes = stream(draw, &plan, &at);
+            if draw.one_in(6) {
+                one_off(draw, &plan, &mut at);
+            }
+            let counts = match draw.below(4) {
+                0 => bytes.len().saturating_sub(1 + draw.below(RECORD)),
+                1 => bytes.len() + 1 + draw.below(RECORD),
+                _ => bytes.len(),
+            };
+            requests.board(&at);
+            let fill = draw.pick(&[0, 255]);
+            requests.buffer(&bytes, counts, fill);
+            let exact = 3 * (counts / RECORD);
+            let room = match draw.below(8) {
+                0 => draw.below(exact + 1),
+                1 => exact.saturating_sub(1),
+                2 => exact + 1 + draw.below(4),
+                3 => draw.pick(&[0, 1, 2, 3, STREAM_ROOM, STREAM_ROOM + 1]),
+                _ => exact,
+            };
+            let held = draw.pick(&[0, 7, u32::MAX]);
+            requests.ask(STREAM, [0; 3], [room as u32, held, 0]);
+            // The board handed back.
+            requests.call(REPLY);
+        }
+        inputs.push(Input {
+            what: "streams".to_string(),
+            bytes: requests.0,
+        });
+    }
+    inputs
 }
 
 /// Doubles an ordinary record or a wait until there is one too many, or adds points until there is.

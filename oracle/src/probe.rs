@@ -4,12 +4,18 @@ use crate::board::{Board, Outcome, Place, PLACES};
 use crate::by_value;
 use crate::plan::{self, unsigned, RawPlan, RawRecord, RECORD, ROOM};
 use crate::plan_test::Answer;
-use crate::verdict::Verdict;
+use crate::verdict::{Listed, Verdict};
 use crate::Refusal;
 use std::io::{self, Read, Write};
 
 /// The whole buffer.
 const BUFFER: usize = 65_536;
+/// Eight bytes of the buffer are a bound, and this many bounds can be listed.
+const BOUND_BYTES: usize = 8;
+const LIST: usize = 4_096;
+/// A stream's room: the most numbers, and how many are said of one event.
+const STREAM_ROOM: usize = 12_288;
+const SAID: usize = 3;
 const PRIME: u64 = 16_777_213;
 
 /// What the requests have put on the desk.
@@ -50,6 +56,15 @@ pub fn probe(input: &mut impl Read, output: &mut impl Write) -> io::Result<()> {
 
 fn mixed(sum: u32, x: u32) -> u32 {
     ((u64::from(sum) % PRIME * 251 + u64::from(x) + 1) % PRIME) as u32
+}
+
+/// A board's lines.
+fn board_lines(asked: u32, board: &Board) -> Vec<Line> {
+    let mut lines = vec![[asked, board.clock, board.done, 0]];
+    for four in board.minutes.chunks_exact(4) {
+        lines.push([four[0], four[1], four[2], four[3]]);
+    }
+    lines
 }
 
 /// The sum over a plan, all its room included.
@@ -123,6 +138,8 @@ impl Desk {
             }
             21 => return self.test(),
             22 => return self.read(),
+            23 => return vec![self.judge()],
+            24 => return self.stream(f, s),
             other => return vec![[other.into(), 0, 0, 0]],
         }
         Vec::new()
@@ -185,10 +202,8 @@ impl Desk {
         let sum = self.sum(|plan| by_value::take(plan, &self.board, event).2.clock);
         let (number, record, after) = by_value::take(&self.plan, &self.board, event);
         self.board = after;
-        let mut lines = vec![[17, number, record, sum], [17, after.clock, after.done, 0]];
-        for four in after.minutes.chunks_exact(4) {
-            lines.push([four[0], four[1], four[2], four[3]]);
-        }
+        let mut lines = vec![[17, number, record, sum]];
+        lines.extend(board_lines(17, &after));
         lines
     }
 
@@ -206,6 +221,41 @@ impl Desk {
         });
         let (number, record) = judged(&self.plan);
         [18, number, record, sum]
+    }
+
+    /// The bytes that count, as a lent list.
+    fn judge(&self) -> Line {
+        let bounds = self.buffer[..self.counts].chunks_exact(BOUND_BYTES);
+        let listed = |bytes: &[u8]| Listed {
+            x: bytes[0].into(),
+            y: bytes[1].into(),
+            bound: unsigned(bytes, 4) as i32,
+        };
+        let list: Vec<Listed> = bounds.take(LIST).map(listed).collect();
+        match by_value::judge(&self.plan, &self.board, &list) {
+            Ok(Verdict::Kept) => [23, 0, 0, 0],
+            Ok(Verdict::Broken(place)) => [23, 100, place, 0],
+            Err((number, place)) => [23, number, place, 0],
+        }
+    }
+
+    /// The bytes that count, as events one after the other, each from the board that the one before handed back.
+    fn stream(&mut self, numbers: u32, before: u32) -> Vec<Line> {
+        let mut room = vec![before; STREAM_ROOM.min(numbers as usize)];
+        let refusal = by_value::sound(&self.plan, &self.board).err();
+        if refusal.is_none() {
+            let events = self.buffer[..self.counts].chunks_exact(RECORD);
+            for (said, event) in room.chunks_exact_mut(SAID).zip(events) {
+                let (number, _, after) = by_value::take(&self.plan, &self.board, event);
+                self.board = after;
+                said.copy_from_slice(&[number, after.clock, after.done]);
+            }
+        }
+        let (number, record) = refusal.unwrap_or((0, 0));
+        let sum = room.into_iter().fold(0, mixed);
+        let mut lines = vec![[24, number, record, sum]];
+        lines.extend(board_lines(24, &self.board));
+        lines
     }
 
     fn test(&self) -> Vec<Line> {

@@ -75,6 +75,79 @@ fn plans_by_value_and_buffers() {
     assert!(lines[2].starts_with("22 9 "), "{}", lines[2]);
 }
 
+fn finished_haul() -> Vec<u8> {
+    let mut bytes = haul_on_the_desk();
+    bytes.extend(request(3, [0; 3], [43, 15, 0]));
+    for (point, minute) in [(0, 0), (1, 12), (2, 40), (3, 43)] {
+        bytes.extend(request(4, [point, 0, 0], [minute, 0, 0]));
+    }
+    bytes
+}
+
+#[test]
+fn a_lent_list() {
+    let bound = |place: u32, from: u32, to: u32, bound: i32| {
+        request(6, [0; 3], [8 * place, from + 256 * to, bound as u32])
+    };
+    let judged = |bytes: u32, bounds: &[Vec<u8>]| {
+        let buffer = request(5, [0; 3], [bytes, 0, 0]);
+        answers(&[finished_haul(), buffer, bounds.concat(), call(23)])
+    };
+    assert_eq!(judged(0, &[bound(0, 9, 9, 0)]), ["23 0 0 0"]);
+    // Seven bytes are no bound.
+    assert_eq!(judged(7, &[bound(0, 9, 9, 0)]), ["23 0 0 0"]);
+    assert_eq!(judged(8, &[bound(0, 0, 1, 12)]), ["23 0 0 0"]);
+    assert_eq!(judged(8, &[bound(0, 0, 1, 11)]), ["23 100 0 0"]);
+    let broken_first = [bound(0, 0, 1, i32::MIN), bound(1, 3, 4, i32::MAX)];
+    assert_eq!(judged(16, &broken_first), ["23 8 1 0"]);
+    // There is room for 4,096 of them.
+    let far = |place| judged(65_536, &[bound(place, 0, 1, 11)]);
+    assert_eq!(far(4_095), ["23 100 4095 0"]);
+    assert_eq!(far(4_096), ["23 0 0 0"]);
+    let open = answers(&[haul_on_the_desk(), call(23)]);
+    assert_eq!(open, ["23 31 0 0"]);
+}
+
+#[test]
+fn a_stream() {
+    let event = |place: u32, minute: u32, point: u32, set: u32| {
+        let first = request(6, [0; 3], [16 * place, minute, point]);
+        [first, request(6, [0; 3], [16 * place + 8, set, 0])].concat()
+    };
+    let streamed = |bytes: u32, room: u32| {
+        let mut all = haul_on_the_desk();
+        all.extend(request(5, [0; 3], [bytes, 0, 0]));
+        all.extend(event(0, 0, 0, 0));
+        all.extend(event(1, 9, 1, 0));
+        all.extend(event(2, 12, 1, 0));
+        all.extend(request(24, [0; 3], [room, 7, 0]));
+        answers(&[all])
+    };
+    let sum = |numbers: &[u64]| {
+        let mixed = |sum: u64, x: &u64| (sum * 251 + x + 1) % 16_777_213;
+        numbers.iter().fold(0, mixed)
+    };
+    let lines = streamed(48, 10);
+    let whole = sum(&[0, 0, 1, 29, 0, 1, 0, 12, 3, 7]);
+    assert_eq!(
+        lines[..3],
+        [
+            format!("24 0 0 {whole}"),
+            "24 12 3 0".into(),
+            "0 12 0 0".into()
+        ]
+    );
+    assert_eq!(lines.len(), 10);
+    // Two events, since there is no room for a third, or no third one.
+    let lines = streamed(48, 8);
+    let short = sum(&[0, 0, 1, 29, 0, 1, 7, 7]);
+    assert_eq!(
+        lines[..2],
+        [format!("24 0 0 {short}"), "24 0 1 0".to_string()]
+    );
+    assert_eq!(streamed(47, 8), lines);
+}
+
 #[test]
 fn an_unfinished_request_and_a_request_0_end_it() {
     let mut cut = call(99);

@@ -23,7 +23,7 @@ pub fn wide(x: u8) -> u32
     x as u32
 }
 
-fn word(a: u8, b: u8, c: u8, d: u8) -> u32 {
+pub fn word(a: u8, b: u8, c: u8, d: u8) -> u32 {
     wide(a) + 256 * (wide(b) + 256 * (wide(c) + 256 * wide(d)))
 }
 

@@ -1,10 +1,12 @@
 // The calls: each is made so many times with another pond code in the plan's first record, for the benchmark, and then once
 // as the desk stands, which is answered. The number in front of an answer's first line is the request's own.
+use crate::block::Block;
 use crate::desk::Desk;
 use crate::desk::set_byte;
+use crate::many;
 use crate::says::mixed;
 use crate::says::say;
-use crate::says::say_minutes;
+use crate::says::say_board;
 use crate::says::say_places;
 use crate::says::sum_of;
 use crate::says::sum_of_plan;
@@ -79,9 +81,7 @@ fn take(desk: Desk, event: &[u8]) -> Desk {
     let taken = before.take(plan, event);
     let after = taken.board;
     say(TAKE, taken.number, taken.place, sum);
-    say(TAKE, after.clock, after.done, 0);
-    let minutes = after.minutes;
-    say_minutes(minutes);
+    say_board(TAKE, after);
     let mut next = desk;
     next.board = after;
     next
@@ -157,7 +157,8 @@ fn say_read(bytes: &mut [u8], times: u32) {
 }
 
 // A call by its number; any other number is answered with itself.
-pub fn called(desk: Desk, asked: u8, buffer: &mut [u8]) -> Desk {
+pub fn called(desk: Desk, block: Block, buffer: &mut [u8]) -> Desk {
+    let asked = block.asked;
     let plan = desk.plan;
     let board = desk.board;
     let times = desk.times;
@@ -172,7 +173,11 @@ pub fn called(desk: Desk, asked: u8, buffer: &mut [u8]) -> Desk {
         20 => say_write(plan, &mut buffer[..n]),
         21 => say_test(plan),
         22 => say_read(&mut buffer[..n], times),
-        0..=15 | 23..=255 => say(asked as u32, 0, 0, 0),
+        23 => many::judge(plan, board, &buffer[..n]),
+        24 => {
+            return many::stream(desk, &buffer[..n], block.first, block.second);
+        }
+        0..=15 | 25..=255 => say(asked as u32, 0, 0, 0),
     }
     desk
 }

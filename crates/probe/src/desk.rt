@@ -132,7 +132,7 @@ impl Desk {
             5 => self.filled(block, buffer),
             6 => self.put(block, buffer),
             7 => self.repeated(block),
-            0 | 8..=255 => calls::called(self, asked, buffer),
+            0 | 8..=255 => calls::called(self, block, buffer),
         }
     }
 }

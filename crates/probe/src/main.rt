@@ -4,6 +4,7 @@
 mod block;
 mod calls;
 mod desk;
+mod many;
 mod says;
 
 use block::OVER;

@@ -1,6 +1,7 @@
 // Answers as lines of four numbers, and sums that stand for many bytes.
 ghost use Rattle.io.specs.Counts.{Counts};
 use crate::block::wide;
+use board::Board;
 use board::Place;
 use board::ROOM;
 use board::State;
@@ -81,7 +82,7 @@ pub fn say_places(places: [Place; ROOM]) {
 }
 
 // All minutes of a board, four to a line.
-pub fn say_minutes(minutes: [u32; ROOM]) {
+fn say_minutes(minutes: [u32; ROOM]) {
     for k in 0..ROOM / 4 {
         say(
             minutes[4 * k],
@@ -90,4 +91,11 @@ pub fn say_minutes(minutes: [u32; ROOM]) {
             minutes[4 * k + 3],
         );
     }
+}
+
+// A board: its clock and its done set, and its minutes.
+pub fn say_board(asked: u32, board: Board) {
+    say(asked, board.clock, board.done, 0);
+    let minutes = board.minutes;
+    say_minutes(minutes);
 }

@@ -3,6 +3,7 @@
 
 ghost use mathlib.Core.Path.{_≡_};
 ghost use Rattle.board.specs.Boards.{fresh};
+ghost use Rattle.board.specs.Numbers.{verdictNumber};
 ghost use Rattle.board.specs.Verdicts.{endedOf, verdictOf};
 
 mod each;
@@ -146,7 +147,8 @@ pub fn ended(plan: Plan, board: Board) -> Refusal
 
 // The verdict on a finished board.
 pub fn verdict_of(plan: Plan, board: Board) -> Verdict
-    ensures { λ v. ⌜ v ≡ verdictOf plan board ⌝ }
+    ensures verdict { λ v. ⌜ v ≡ verdictOf plan board ⌝ }
+    ensures number { λ v. ⌜ verdictNumber v ≡ endedOf plan board .number ⌝ }
 {
     let found = ended(plan, board);
     if found.number != ACCEPTED {

@@ -11,6 +11,7 @@ ghost use Rattle.plan.specs.APlan.{recordsOf, some};
 ghost use Rattle.plan.specs.ReplyNumbers.{checkOf};
 ghost use Rattle.board.specs.Boards.{sound, running};
 ghost use Rattle.board.specs.Replies.{finished, stuck, bare, soundReply, replyOf};
+ghost use Rattle.board.specs.Numbers.{outcomeNumber, callNumber};
 ghost use Rattle.board.specs.InsideReplies.{lastMinute, WindowsOf, stateFrom, offerFrom};
 use crate::Board;
 use crate::FARTHEST;
@@ -193,7 +194,8 @@ fn reply_sound(plan: Plan, board: Board) -> Reply
 
 // What a board is: the plan's own refusal first, then 20, then the first outcome that fits.
 pub fn reply_of(plan: Plan, board: Board) -> Reply
-    ensures { λ r. ⌜ r ≡ replyOf plan board ⌝ }
+    ensures reply { λ r. ⌜ r ≡ replyOf plan board ⌝ }
+    ensures number { λ r. ⌜ outcomeNumber (r .outcome) ≡ callNumber plan board ⌝ }
 {
     let found = check(plan);
     if found.number != ACCEPTED {

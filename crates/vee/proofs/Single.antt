@@ -76,3 +76,7 @@ pub test-number : {p : Plan} {r : Answer} → Tested p r → answerNumber r ≡ 
 test-number (refused h) = rw (ne-eqb _ _ h)
 test-number (too-many e m) = rw (e, lt-ltb _ _ m)
 test-number (tested e m f) = found-number f ∙ rw (e, le-ltb _ _ m)
+
+-- the answer with its number, as the contract says it
+pub test-numbered : {p : Plan} {r : Answer} → Tested p r → Tested p r × (answerNumber r ≡ testNumber p)
+test-numbered t = (t, test-number t)

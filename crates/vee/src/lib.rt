@@ -3,7 +3,7 @@
 // tables and a small frame for each link.
 ghost use Rattle.plan.specs.APlan.{is, link, recordsOf, howMany, one};
 ghost use Rattle.plan.specs.Limits.{mostRecords};
-ghost use Rattle.vee.specs.PlanTest.{Tested};
+ghost use Rattle.vee.specs.PlanTest.{Tested, answerNumber, testNumber};
 ghost use mathlib.Core.Path.{_≡_};
 ghost use Prim.Native.Nat.{_≤_};
 use layout::lay_out;
@@ -60,7 +60,8 @@ fn links_of(plan: Plan) -> usize
 
 // Tests a plan: its own refusal, then 13, then its projections in order up to the first that fails.
 pub fn test(plan: Plan) -> Answer
-    ensures { λ r. ⌜ Tested plan r ⌝ }
+    ensures answer { λ r. ⌜ Tested plan r ⌝ }
+    ensures number { λ r. ⌜ answerNumber r ≡ testNumber plan ⌝ }
 {
     let found = check(plan);
     if found.number != ACCEPTED {

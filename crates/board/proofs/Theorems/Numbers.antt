@@ -1,6 +1,6 @@
 -- The numbers of the answers that are enums: a reply is refused exactly by the plan's own number or 20, and a verdict
 -- exactly by those or 31. Assumes nothing.
-use mathlib.Core.Path.{_≡_, refl, sym, _∙_}
+use mathlib.Core.Path.{_≡_, refl, sym, ap, _∙_}
 use mathlib.Core.Bool.{Bool, true, false, not}
 use mathlib.Core.List.{List, [], _∷_}
 use Prim.Native.Nat.{ℕ, suc}
@@ -19,6 +19,8 @@ use Rattle.board.specs.Numbers.{outcomeNumber, verdictNumber, callNumber
 use Rattle.board.specs.declared.Board.{Board}
 use Rattle.board.specs.declared.Outcome.{Outcome}
 use Rattle.board.specs.declared.Outcome.the-variants as outcome
+use Rattle.board.specs.declared.Reply.{Reply}
+use Rattle.board.specs.declared.Verdict.{Verdict}
 use Rattle.board.specs.declared.Verdict.the-variants as verdict
 
 module _ (rs : List Record) (b : Board) where
@@ -72,3 +74,11 @@ module _ (p : Plan) (b : Board) where
           → verdictNumber (if not k then verdict.Refused (endedOf p b .number) (endedOf p b .place) else firstBroken (recordsOf p) b 0 (recordsOf p)) ≡ endedOf p b .number
       go true e = broken-number (recordsOf p) b 0 (recordsOf p) ∙ sym (eqb-true _ _ e)
       go false e = refl
+
+-- ---- with its number, as the contracts say it
+
+pub reply-numbered : (p : Plan) (b : Board) {r : Reply} → r ≡ replyOf p b → (r ≡ replyOf p b) × (outcomeNumber (r .outcome) ≡ callNumber p b)
+reply-numbered p b e = (e, ap (λ (r : Reply). outcomeNumber (r .outcome)) e ∙ reply-number p b)
+
+pub verdict-numbered : (p : Plan) (b : Board) {v : Verdict} → v ≡ verdictOf p b → (v ≡ verdictOf p b) × (verdictNumber v ≡ endedOf p b .number)
+verdict-numbered p b e = (e, ap (λ (v : Verdict). verdictNumber v) e ∙ verdict-number p b)

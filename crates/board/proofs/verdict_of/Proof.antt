@@ -2,6 +2,7 @@
 use borrow.Author.Needs.{needs}
 use borrow.Author.Tests.{eq-eqb, ne-eqb}
 use Rattle.board.specs.Verdicts.{verdictOf}
+use Rattle.board.proofs.Theorems.Numbers.{verdict-numbered}
 use Rattle.board.proofs.Broken.{ended-accepted}
 use Rattle.board.proofs.verdict_of.Statement.{statement}
 use Rattle.board.proofs.verdict_of.Tie as tie
@@ -13,7 +14,7 @@ returns : tie.Need-returns
 unfolding verdictOf
 returns c =
     let e = rw (c .before .before .ended .ensures) at (ne-eqb _ _ (c .if1 .taken)) in
-    rw (e, c .before .before .ended .ensures)
+    verdict-numbered _ _ (rw (e, c .before .before .ended .ensures))
 
 links-of-requires : tie.Need-links-of-requires
 links-of-requires c κs = search needs
@@ -27,7 +28,7 @@ returns-2 : tie.Need-returns-2
 unfolding verdictOf
 returns-2 c =
     let e = rw (c .before .before .before .before .ended .ensures) at (eq-eqb _ _ (c .before .before .if1 .left)) in
-    rw e (c .first-broken .ensures)
+    verdict-numbered _ _ (rw e (c .first-broken .ensures))
 
 pub verdict-of-spec : {M : Type 1} → statement M
 verdict-of-spec = tie.close (tie.spec ended-requires returns links-of-requires first-broken-requires returns-2)

@@ -41,27 +41,27 @@ end-word-requires-4 c κs = search needs
 
 returns : tie.Need-returns
 returns c =
-    let e = rw (c .before .before .before .before .reply-of .ensures) at (c .before .before .enum-told .given .1) in
-    rw e (rw (c .before .verdict-of .ensures) at (c .verdict-line .ensures))
+    let e = rw (c .before .before .before .before .reply-of .ensures .0) at (c .before .before .enum-told .given .1) in
+    rw e (rw (c .before .verdict-of .ensures .0) at (c .verdict-line .ensures))
 
 returns-2 : tie.Need-returns-2
 returns-2 c =
-    let e = rw (c .before .before .before .reply-of .ensures) at (c .before .enum-told2 .given .1) in
+    let e = rw (c .before .before .before .reply-of .ensures .0) at (c .before .enum-told2 .given .1) in
     rw e (c .end-word .ensures)
 
 returns-3 : tie.Need-returns-3
 returns-3 c =
-    let e = rw (c .before .before .before .reply-of .ensures) at (c .before .enum-told3 .given .1) in
+    let e = rw (c .before .before .before .reply-of .ensures .0) at (c .before .enum-told3 .given .1) in
     rw e (c .end-word2 .ensures)
 
 returns-4 : tie.Need-returns-4
 returns-4 c =
-    let e = rw (c .before .before .before .reply-of .ensures) at (c .before .enum-told4 .given .1) in
+    let e = rw (c .before .before .before .reply-of .ensures .0) at (c .before .enum-told4 .given .1) in
     rw e (c .end-word3 .ensures)
 
 returns-5 : tie.Need-returns-5
 returns-5 c =
-    let e = rw (c .before .before .before .reply-of .ensures) at (c .before .enum-told5 .given .1) in
+    let e = rw (c .before .before .before .reply-of .ensures .0) at (c .before .enum-told5 .given .1) in
     rw e (c .end-word4 .ensures)
 
 pub end-line-spec : {M : Type 1} → statement M

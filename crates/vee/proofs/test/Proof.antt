@@ -5,6 +5,7 @@ use lib.ListN.{length-map, length-replicate}
 use Prim.Native.Nat.{ℕ}
 use native.Mathlib.Omega.{arith}
 use borrow.Author.Needs.{needs}
+use Rattle.vee.proofs.Single.{test-numbered}
 use Rattle.vee.proofs.test.Statement.{statement}
 use Rattle.vee.proofs.test.Tie as tie
 
@@ -12,7 +13,7 @@ check-requires : tie.Need-check-requires
 check-requires c κs = search needs
 
 returns : tie.Need-returns
-returns c = refused-plan _ (c .before .before .check .ensures) (c .if1 .taken)
+returns c = test-numbered (refused-plan _ (c .before .before .check .ensures) (c .if1 .taken))
 
 lay-out-requires : tie.Need-lay-out-requires
 lay-out-requires c κs = (few-records _ (c .before .before .before .check .ensures) (c .before .if1 .left), length-replicate {A = ℕ} sheetRoom 0)
@@ -33,7 +34,7 @@ projections-requires : tie.Need-projections-requires
 projections-requires c κs = rows-ready _ (c .before .before .before .before .before .before .before .check .ensures) (c .before .before .before .before .before .if1 .left) (rw length-map at (c .before .before .before .before .before .before .before .before .good .0 .1 .1 .1 .0 .1 .0 .1)) (c .before .before .before .lay-out .ensures) (c .before .before .points-of .ensures) (c .before .links-of .ensures)
 
 returns-2 : tie.Need-returns-2
-returns-2 c = too-many-plan _ (c .before .before .before .before .before .before .before .before .before .check .ensures) (c .before .before .before .before .before .before .before .if1 .left) (rw length-map at (c .before .before .before .before .before .before .before .before .before .before .good .0 .1 .1 .1 .0 .1 .0 .1)) (c .before .before .before .before .before .lay-out .ensures) (c .before .before .before .before .points-of .ensures) (c .before .before .before .links-of .ensures) (c .before .projections .ensures) (c .if2 .taken)
+returns-2 c = test-numbered (too-many-plan _ (c .before .before .before .before .before .before .before .before .before .check .ensures) (c .before .before .before .before .before .before .before .if1 .left) (rw length-map at (c .before .before .before .before .before .before .before .before .before .before .good .0 .1 .1 .1 .0 .1 .0 .1)) (c .before .before .before .before .before .lay-out .ensures) (c .before .before .before .before .points-of .ensures) (c .before .before .before .links-of .ensures) (c .before .projections .ensures) (c .if2 .taken))
 
 cast-walk : tie.Need-cast-walk
 cast-walk c = search needs
@@ -42,7 +43,7 @@ walk-requires : tie.Need-walk-requires
 walk-requires c κs = walk-ready _ (c .before .before .before .before .before .before .before .before .before .before .before .before .before .before .check .ensures) (c .before .before .before .before .before .before .before .before .before .before .before .before .if1 .left) (rw length-map at (c .before .before .before .before .before .before .before .before .before .before .before .before .before .before .before .good .0 .1 .1 .1 .0 .1 .0 .1)) (c .before .before .before .before .before .before .before .before .before .before .lay-out .ensures) (c .before .before .before .before .before .before .before .before .before .points-of .ensures) (c .before .before .before .before .before .before .before .before .links-of .ensures) (c .before .before .before .before .before .before .projections .ensures) (c .before .before .before .before .before .if2 .left)
 
 returns-3 : tie.Need-returns-3
-returns-3 c = tested-plan _ (c .before .before .before .before .before .before .before .before .before .before .before .before .before .before .before .check .ensures) (c .before .before .before .before .before .before .before .before .before .before .before .before .before .if1 .left) (rw length-map at (c .before .before .before .before .before .before .before .before .before .before .before .before .before .before .before .before .good .0 .1 .1 .1 .0 .1 .0 .1)) (c .before .before .before .before .before .before .before .before .before .before .before .lay-out .ensures) (c .before .before .before .before .before .before .before .before .before .before .points-of .ensures) (c .before .before .before .before .before .before .before .before .before .links-of .ensures) (c .before .before .before .before .before .before .before .projections .ensures) (c .before .before .before .before .before .before .if2 .left) (c .walk .ensures)
+returns-3 c = test-numbered (tested-plan _ (c .before .before .before .before .before .before .before .before .before .before .before .before .before .before .before .check .ensures) (c .before .before .before .before .before .before .before .before .before .before .before .before .before .if1 .left) (rw length-map at (c .before .before .before .before .before .before .before .before .before .before .before .before .before .before .before .before .good .0 .1 .1 .1 .0 .1 .0 .1)) (c .before .before .before .before .before .before .before .before .before .before .before .lay-out .ensures) (c .before .before .before .before .before .before .before .before .before .before .points-of .ensures) (c .before .before .before .before .before .before .before .before .before .links-of .ensures) (c .before .before .before .before .before .before .before .projections .ensures) (c .before .before .before .before .before .before .if2 .left) (c .walk .ensures))
 
 pub test-spec : {M : Type 1} → statement M
 test-spec =

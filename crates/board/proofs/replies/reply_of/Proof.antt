@@ -2,6 +2,7 @@
 use borrow.Author.Needs.{needs}
 use mathlib.Core.Path.{sym, _∙_}
 use borrow.Author.Tests.{not-true, not-false}
+use Rattle.board.proofs.Theorems.Numbers.{reply-numbered}
 use Rattle.board.proofs.Replying.{reply-refused, is-accepted, reply-unsound, reply-sound}
 use Rattle.board.proofs.replies.reply_of.Statement.{statement}
 use Rattle.board.proofs.replies.reply_of.Tie as tie
@@ -13,7 +14,7 @@ nothing-more-requires : tie.Need-nothing-more-requires
 nothing-more-requires c κs = search needs
 
 returns : tie.Need-returns
-returns c = c .nothing-more .ensures ∙ reply-refused _ (c .before .before .before .before .args .board) _ (c .before .before .before .check .ensures) (c .before .if1 .taken)
+returns c = reply-numbered (c .before .before .before .before .args .plan) (c .before .before .before .before .args .board) (c .nothing-more .ensures ∙ reply-refused _ (c .before .before .before .before .args .board) _ (c .before .before .before .check .ensures) (c .before .if1 .taken))
 
 is-sound-requires : tie.Need-is-sound-requires
 is-sound-requires c κs = search needs
@@ -22,13 +23,13 @@ nothing-more-requires-2 : tie.Need-nothing-more-requires-2
 nothing-more-requires-2 c κs = search needs
 
 returns-2 : tie.Need-returns-2
-returns-2 c = c .nothing-more2 .ensures ∙ reply-unsound _ (c .before .before .before .before .before .before .args .board) _ (c .before .before .before .before .before .check .ensures) (c .before .before .before .if1 .left) (sym (c .before .before .is-sound .ensures) ∙ not-true _ (c .before .if2 .taken))
+returns-2 c = reply-numbered (c .before .before .before .before .before .before .args .plan) (c .before .before .before .before .before .before .args .board) (c .nothing-more2 .ensures ∙ reply-unsound _ (c .before .before .before .before .before .before .args .board) _ (c .before .before .before .before .before .check .ensures) (c .before .before .before .if1 .left) (sym (c .before .before .is-sound .ensures) ∙ not-true _ (c .before .if2 .taken)))
 
 reply-sound-requires : tie.Need-reply-sound-requires
 reply-sound-requires c κs = (is-accepted _ (c .before .before .before .before .before .args .board) _ (c .before .before .before .before .check .ensures) (c .before .before .if1 .left), sym (c .before .is-sound .ensures) ∙ not-false _ (c .if2 .left))
 
 returns-3 : tie.Need-returns-3
-returns-3 c = c .reply-sound .ensures ∙ reply-sound _ (c .before .before .before .before .before .before .args .board) _ (c .before .before .before .before .before .check .ensures) (c .before .before .before .if1 .left) (sym (c .before .before .is-sound .ensures) ∙ not-false _ (c .before .if2 .left))
+returns-3 c = reply-numbered (c .before .before .before .before .before .before .args .plan) (c .before .before .before .before .before .before .args .board) (c .reply-sound .ensures ∙ reply-sound _ (c .before .before .before .before .before .before .args .board) _ (c .before .before .before .before .before .check .ensures) (c .before .before .before .if1 .left) (sym (c .before .before .is-sound .ensures) ∙ not-false _ (c .before .if2 .left)))
 
 pub reply-of-spec : {M : Type 1} → statement M
 reply-of-spec =

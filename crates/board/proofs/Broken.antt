@@ -12,13 +12,14 @@ use lib.Seq.{drop-cons}
 use borrow.Author.Tests.{eqb-true, ne-eqb}
 use Rattle.plan.specs.Choice.{if_then_else_}
 use Rattle.plan.specs.Limits.{mostPoints}
-use Rattle.plan.specs.APlan.{ordinary, wait, is, linkTo, gapOf, blank}
+use Rattle.plan.specs.APlan.{ordinary, wait, is, linkTo, gapOf, blank, recordsOf}
 use Rattle.plan.proofs.Accepted.{Rules, Accepted}
-use Rattle.plan.specs.ReplyNumbers.{checkOf}
+use Rattle.plan.specs.ReplyNumbers.{refusal, accepted, checkOf}
 use Rattle.plan.specs.declared.Record.{Record}
 use Rattle.plan.specs.declared.Plan.{Plan}
 use Rattle.plan.specs.declared.Refusal.{Refusal}
-use Rattle.board.specs.Boards.{minute}
+use Rattle.board.specs.Boards.{minute, sound}
+use Rattle.board.specs.Replies.{finished}
 use Rattle.board.specs.Verdicts.{ordinaryKept, waitKept, kept, firstBroken, endedOf}
 use Rattle.board.specs.Inside.{noEnd, LinksOf, keptFrom}
 use Rattle.board.specs.declared.Board.{Board}
@@ -79,3 +80,9 @@ ended-accepted p b = go (checkOf p) _ (eqb (checkOf p .number) 0) refl
     go : (x y : Refusal) (t : Bool) → eqb (x .number) 0 ≡ t → (if not t then x else y) .number ≡ 0 → x .number ≡ 0
     go x y true f e = eqb-true (x .number) 0 f
     go x y false f e = e
+
+-- what comes before a verdict, by its three tests
+pub ended-by : (p : Plan) (b : Board) {k s f : Bool} → eqb (checkOf p .number) 0 ≡ k → sound (recordsOf p) b ≡ s → finished (recordsOf p) b ≡ f
+    → (if not k then checkOf p else if not s then refusal 20 0 else if not f then refusal 31 0 else accepted) ≡ endedOf p b
+unfolding endedOf
+ended-by p b e g h = rw (e, g, h)

@@ -1,8 +1,8 @@
 -- `board::ended` meets its contract. Assumes nothing.
 use borrow.Author.Needs.{needs}
-use mathlib.Core.Path.{sym, _∙_}
+use mathlib.Core.Path.{refl, sym, _∙_}
 use borrow.Author.Tests.{eq-eqb, ne-eqb, not-true, not-false}
-use Rattle.board.specs.Verdicts.{endedOf}
+use Rattle.board.proofs.Broken.{ended-by}
 use Rattle.board.proofs.ended.Statement.{statement}
 use Rattle.board.proofs.ended.Tie as tie
 
@@ -10,36 +10,32 @@ check-requires : tie.Need-check-requires
 check-requires c κs = search needs
 
 returns : tie.Need-returns
-unfolding endedOf
 returns c =
     let e = rw (c .before .before .check .ensures) at (ne-eqb _ _ (c .if1 .taken)) in
-    rw (e, c .before .before .check .ensures)
+    c .before .before .check .ensures ∙ ended-by _ _ e refl refl
 
 is-sound-requires : tie.Need-is-sound-requires
 is-sound-requires c κs = search needs
 
 returns-2 : tie.Need-returns-2
-unfolding endedOf
 returns-2 c =
     let e = rw (c .before .before .before .before .check .ensures) at (eq-eqb _ _ (c .before .before .if1 .left)) in
-    rw (e, sym (c .before .is-sound .ensures) ∙ not-true _ (c .if2 .taken))
+    ended-by _ _ e (sym (c .before .is-sound .ensures) ∙ not-true _ (c .if2 .taken)) refl
 
 all-points-requires : tie.Need-all-points-requires
 all-points-requires c κs = search needs
 
 returns-3 : tie.Need-returns-3
-unfolding endedOf
 returns-3 c =
     let e = rw (c .before .before .before .before .before .before .before .check .ensures) at (eq-eqb _ _ (c .before .before .before .before .before .if1 .left)) in
     let f = rw (c .before .before .all-points .ensures) at (ne-eqb _ _ (c .if3 .taken)) in
-    rw (e, sym (c .before .before .before .before .is-sound .ensures) ∙ not-false _ (c .before .before .before .if2 .left), f)
+    ended-by _ _ e (sym (c .before .before .before .before .is-sound .ensures) ∙ not-false _ (c .before .before .before .if2 .left)) f
 
 returns-4 : tie.Need-returns-4
-unfolding endedOf
 returns-4 c =
     let e = rw (c .before .before .before .before .before .before .before .check .ensures) at (eq-eqb _ _ (c .before .before .before .before .before .if1 .left)) in
     let f = rw (c .before .before .all-points .ensures) at (eq-eqb _ _ (c .if3 .left)) in
-    rw (e, sym (c .before .before .before .before .is-sound .ensures) ∙ not-false _ (c .before .before .before .if2 .left), f)
+    ended-by _ _ e (sym (c .before .before .before .before .is-sound .ensures) ∙ not-false _ (c .before .before .before .if2 .left)) f
 
 pub ended-spec : {M : Type 1} → statement M
 ended-spec =

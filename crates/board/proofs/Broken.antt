@@ -1,6 +1,6 @@
 -- What the verdict rests on: that only an accepted plan gets one, that a record is judged by its own points and by where the link to its
 -- second one starts, and what a turn, a broken record and the end give. Assumes nothing.
-use mathlib.Core.Path.{_≡_, refl}
+use mathlib.Core.Path.{_≡_, refl, sym, _∙_}
 use mathlib.Core.Bool.{Bool, true, false, not}
 use mathlib.Core.List.{List}
 use Prim.Native.Nat.{ℕ, _+_, _-_, _%_, _≤_, _<_, min}
@@ -82,7 +82,13 @@ ended-accepted p b = go (checkOf p) _ (eqb (checkOf p .number) 0) refl
     go x y false f e = e
 
 -- what comes before a verdict, by its three tests
-pub ended-by : (p : Plan) (b : Board) {k s f : Bool} → eqb (checkOf p .number) 0 ≡ k → sound (recordsOf p) b ≡ s → finished (recordsOf p) b ≡ f
-    → (if not k then checkOf p else if not s then refusal 20 0 else if not f then refusal 31 0 else accepted) ≡ endedOf p b
+abbrev endedAs : Plan → Bool → Bool → Bool → Refusal
+endedAs p k s f = if not k then checkOf p else if not s then refusal 20 0 else if not f then refusal 31 0 else accepted
+
+ended-as : (p : Plan) (b : Board) → endedAs p (eqb (checkOf p .number) 0) (sound (recordsOf p) b) (finished (recordsOf p) b) ≡ endedOf p b
 unfolding endedOf
-ended-by p b e g h = rw (e, g, h)
+ended-as p b = refl
+
+pub ended-by : (p : Plan) (b : Board) {k s f : Bool} → eqb (checkOf p .number) 0 ≡ k → sound (recordsOf p) b ≡ s → finished (recordsOf p) b ≡ f
+    → endedAs p k s f ≡ endedOf p b
+ended-by p b e g h = sym (λ i. endedAs p (e i) (g i) (h i)) ∙ ended-as p b

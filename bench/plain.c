@@ -1,4 +1,4 @@
-// The rules of document 01 in plain C, by the same algorithms and the same passes as the proved programs, to measure those
+// The rules of document 01, with the twin records of document 02, in plain C, by the same algorithms and the same passes as the proved programs, to measure those
 // against: `plain sheet` is the printing program, `plain probe` takes the requests of compare/PROBE.md. Every call checks
 // the plan and the board that it is given, as the proved ones do. Nothing here is proved.
 #include <stdbool.h>
@@ -25,14 +25,14 @@ typedef struct { u32 clock, done; u32 minutes[POINTS]; } board;
 static bool has(u32 set, u8 p) { return p < POINTS && (set >> p & 1); }
 static u32 below(u32 n) { return n < POINTS ? (1u << n) - 1 : ~0u; }
 
-// --- Reading and checking plans: numbers 1 to 12 ---
+// --- Reading and checking plans: numbers 1 to 12, and 15 ---
 
 static u32 word_at(const u8 *b) { return b[0] | b[1] << 8 | b[2] << 16 | (u32)b[3] << 24; }
 
 static void put_word(u8 *b, u32 x) { b[0] = x; b[1] = x >> 8; b[2] = x >> 16; b[3] = x >> 24; }
 
 // What the records so far have said.
-typedef struct { u8 kind; u32 counts[5], starts, watched; u8 from[POINTS]; i32 longest[POINTS]; } seen;
+typedef struct { u8 kind; u32 counts[5], starts, watched, joined[POINTS]; u8 from[POINTS]; i32 longest[POINTS]; } seen;
 
 // The number of the next record, 0 if it is good; then it counts as seen.
 static u32 next_record(seen *s, const record *r, u8 reserved) {
@@ -58,7 +58,9 @@ static u32 next_record(seen *s, const record *r, u8 reserved) {
             s->from[r->b] = r->a;
             s->longest[r->b] = r->second;
         } else if (r->kind == ORDINARY) {
+            if (has(s->joined[r->a], r->b)) return 15;
             if (r->first < -FARTHEST || r->first > FARTHEST) return 11;
+            s->joined[r->a] |= 1u << r->b;
         } else {
             if (!has(s->watched, r->b) || has(s->watched, r->a) || r->a == s->from[r->b]) return 10;
             if (r->first < 1 || r->first > s->longest[r->b]) return 11;

@@ -57,17 +57,27 @@ pub fn plan(size: Size) -> Plan {
             c: ends + k,
         });
     }
-    for j in 0..size.ordinary {
-        let late = calm + j * 7 % (ends - calm);
-        let (x, d, y) = if j % 2 == 0 {
-            (j * 11 % n, 2_000 + (j * 13 % 50) as i64, j * 5 % calm)
-        } else {
-            // Down the list of late points, and around to the calm ones past its end.
-            let lower = late + 1 + j * 3 % (n - late);
-            (late, -1 - (j % 9) as i64, lower % n)
-        };
-        let x = if x == y { ends } else { x };
-        plan.ordinary.push(Ordinary { x, d, y });
+    // Steps up, which end at calm points, and steps down from late ones, in turn and each in a mixed order. Down the list of
+    // late points they go to the ends, and around to the calm ones past them. No pair has two records: those would be twins.
+    let mixed = |mut pairs: Vec<(usize, usize)>| {
+        pairs.sort_by_key(|&(x, y)| (7 * x + 13 * y) % 31);
+        pairs
+    };
+    let up = (0..n).flat_map(|x| (0..calm).map(move |y| (x, y)));
+    let up = mixed(up.filter(|(x, y)| x != y).collect());
+    let down = (calm..ends).flat_map(|x| (x + 1..n).chain(0..calm).map(move |y| (x, y)));
+    let down = mixed(down.collect());
+    for k in 0..up.len().max(down.len()) {
+        let rise = up
+            .get(k)
+            .map(|&(x, y)| (x, 2_000 + (k * 13 % 50) as i64, y));
+        let fall = down.get(k).map(|&(x, y)| (x, -1 - (k % 9) as i64, y));
+        for (x, d, y) in rise.into_iter().chain(fall) {
+            let twin = |old: &Ordinary| (old.x, old.y) == (x, y);
+            if plan.ordinary.len() < size.ordinary && !plan.ordinary.iter().any(twin) {
+                plan.ordinary.push(Ordinary { x, d, y });
+            }
+        }
     }
     for j in 0..size.waits {
         let link = plan.links[j * 3 % links];
@@ -180,4 +190,29 @@ pub fn with_bytes(content: &[u8]) -> Vec<u8> {
         bytes.extend(request(6, [0; 3], [8 * k as u32, word(0), word(4)]));
     }
     bytes
+}
+
+#[cfg(test)]
+mod tests {
+    use super::*;
+    use oracle::plan_test::{plan_test, Answer};
+
+    #[test]
+    fn plans_are_whole_and_pass() {
+        for (points, ordinary, waits) in [(8, 30, 60), (16, 55, 25), (32, 45, 15), (32, 256, 64)] {
+            let projections = 256;
+            let size = Size {
+                points,
+                ordinary,
+                waits,
+                projections,
+            };
+            let plan = plan(size);
+            assert_eq!(plan.records(), size.records());
+            assert_eq!(oracle::plan::read(&plan.to_bytes()), Ok(plan.clone()));
+            assert_eq!(plan_test(&plan), Ok(Answer::Yes(256)));
+            let run = run(&plan);
+            refused(&plan, &run.boards[run.middle(&plan)]);
+        }
+    }
 }

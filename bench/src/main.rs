@@ -60,17 +60,16 @@ fn table(probe: &Sides, sheet: &Sides) -> io::Result<()> {
         waits,
         ..FULL
     });
-    // 180 records each.
-    let by_points =
-        [(8, 136, 34), (16, 128, 32), (32, 112, 28)].map(|(points, ordinary, waits)| {
-            let projections = 4_096;
-            Size {
-                points,
-                ordinary,
-                waits,
-                projections,
-            }
-        });
+    // 100 records each: eight points have no room for more ordinary ones of this form.
+    let by_points = [(8, 30, 60), (16, 55, 25), (32, 45, 15)].map(|(points, ordinary, waits)| {
+        let projections = 4_096;
+        Size {
+            points,
+            ordinary,
+            waits,
+            projections,
+        }
+    });
     let by_projections = [256, 1_024].map(|projections| Size {
         projections,
         ..FULL

@@ -5,7 +5,8 @@ use std::collections::BTreeMap;
 
 /// What must come up in the lines of both printing programs: numbers on the plan line, numbers of events, and endings.
 fn printing() -> Vec<String> {
-    let plan = (1..=11).map(|number| format!("plan {number}"));
+    let plan = (1..=11).chain([15]);
+    let plan = plan.map(|number| format!("plan {number}"));
     let event = std::iter::once(0).chain(21..=30);
     let event = event.map(|number| format!("event {number}"));
     let endings = ["end kept", "end broken", "end stuck", "end open", "tail"];
@@ -43,13 +44,17 @@ const PROBE: [(&str, &[&str]); 10] = [
     ("18", &["0", "plan", "20", "31", "100"]),
     (
         "19",
-        &["0", "1", "3", "4", "5", "6", "7", "8", "9", "10", "11"],
+        &[
+            "0", "1", "3", "4", "5", "6", "7", "8", "9", "10", "11", "15",
+        ],
     ),
     ("20", &["0", "plan", "12"]),
     ("21", &["plan", "13", "101", "102", "103"]),
     (
         "22",
-        &["0", "1", "2", "3", "4", "5", "6", "7", "8", "9", "10", "11"],
+        &[
+            "0", "1", "2", "3", "4", "5", "6", "7", "8", "9", "10", "11", "15",
+        ],
     ),
     ("23", &["0", "plan", "8", "20", "31", "100"]),
     ("24", &["0", "plan", "20"]),
@@ -88,7 +93,7 @@ fn probe_keys(text: &str) -> Vec<String> {
         }
         let of_list = (call, number, checked) == ("23", "8", "0");
         let of_plan =
-            matches!(number.parse(), Ok(1..=11)) && !matches!(call, "19" | "22") && !of_list;
+            matches!(number.parse(), Ok(1..=11 | 15)) && !matches!(call, "19" | "22") && !of_list;
         let answer = if of_plan { "plan" } else { number };
         let more = match (call, number) {
             ("16", _) => 32,
@@ -164,6 +169,12 @@ impl Count {
     pub fn of(&self, key: &str) -> u64 {
         self.seen.get(key).copied().unwrap_or(0)
     }
+}
+
+/// Has everything come up that must?
+pub fn complete(names: &[&str], counts: &[Count]) -> bool {
+    let all = |(name, count): (&&str, &Count)| expected(name).iter().all(|key| count.of(key) > 0);
+    names.iter().zip(counts).all(all)
 }
 
 /// Prints the table, a column for each program; answers what never came up, and what came up but can't.

@@ -1,4 +1,4 @@
-//! Damages plan files: one byte, a cut, records moved, and aimed at each reply number from 4 to 11.
+//! Damages plan files: one byte, a cut, records moved, and aimed at each reply number from 4 to 11 and at 15.
 
 use crate::draw::Draw;
 use oracle::plan::RECORD;
@@ -59,7 +59,7 @@ pub fn move_records(draw: &mut Draw, bytes: &mut Vec<u8>) {
     *bytes = records.concat();
 }
 
-/// Spoils one record in the way that one of the numbers 4 to 11 tells of; other numbers may come of it.
+/// Spoils one record in the way that one of the numbers 4 to 11, or 15, tells of; other numbers may come of it.
 pub fn aim(draw: &mut Draw, bytes: &mut [u8]) {
     let count = bytes.len() / RECORD;
     if count == 0 {
@@ -72,15 +72,18 @@ pub fn aim(draw: &mut Draw, bytes: &mut [u8]) {
         .map(<[u8]>::to_vec)
         .collect();
     // A record of a kind that the way is about, where there is one.
-    let way = draw.below(9);
+    let way = draw.below(10);
     let kinds: &[u8] = match way {
         3 if !draw.one_in(3) => &[2, 3, 4],
         4 => &[2, 3, 4],
         5 => &[2, 4],
         6 => &[2],
         7 | 8 => &[2, 3, 4],
+        9 => &[3],
         _ => &[1, 2, 3, 4],
     };
+    // The points of a record that an ordinary one may become the twin of, or of a link or a wait, which has none.
+    let pair = pair_of(draw, bytes);
     let fitting: Vec<usize> = (0..count)
         .filter(|&k| kinds.contains(&bytes[k * RECORD]))
         .collect();
@@ -140,6 +143,12 @@ pub fn aim(draw: &mut Draw, bytes: &mut [u8]) {
             ]);
             record[8..12].copy_from_slice(&new.to_le_bytes());
         }
+        9 => {
+            record[1..3].copy_from_slice(&pair);
+            if draw.one_in(4) {
+                record.swap(1, 2);
+            }
+        }
         _ => {
             let y = links
                 .iter()
@@ -151,5 +160,19 @@ pub fn aim(draw: &mut Draw, bytes: &mut [u8]) {
             let new = draw.pick(&[large, 0, 1, -1, y, y.wrapping_add(1)]);
             record[4..8].copy_from_slice(&new.to_le_bytes());
         }
+    }
+}
+
+/// The two points of some record that names two, one of the ordinary ones most of the time.
+fn pair_of(draw: &mut Draw, bytes: &[u8]) -> [u8; 2] {
+    let kinds: &[u8] = if draw.one_in(4) { &[2, 4] } else { &[3] };
+    let all = bytes
+        .chunks(RECORD)
+        .filter(|record| kinds.contains(&record[0]));
+    let all: Vec<[u8; 2]> = all.map(|record| [record[1], record[2]]).collect();
+    if all.is_empty() {
+        [0, 1]
+    } else {
+        draw.pick(&all)
     }
 }

@@ -59,7 +59,8 @@ pub fn batch(draw: &mut Draw, number: u64) -> Vec<Input> {
         26 if number % 80 < 40 => each_cut(draw),
         26 => limits(draw),
         27..=29 => moved(draw),
-        30..=34 => aimed(draw),
+        30..=33 => aimed(draw),
+        34 => twins(draw),
         35..=36 => marks(draw),
         37 => each_tail(draw),
         38 => long_parts(draw),
@@ -287,6 +288,99 @@ fn aimed(draw: &mut Draw) -> Vec<Input> {
         }
         let events = events_for(draw, &part, &plan);
         inputs.push(input("records spoiled", joined(&part, &events)));
+    }
+    inputs
+}
+
+/// A twin at each place of the ordinary records (at some of them where they are many), and what is none: the pair the other
+/// way round, and the pair of a link and of a wait. The bounds of a twin may be any, also such as no record may have.
+fn twins(draw: &mut Draw) -> Vec<Input> {
+    let plan = loop {
+        let plan = if draw.one_in(6) {
+            let sizes = Sizes::any(draw);
+            plans::roomy(draw, sizes)
+        } else {
+            small_good(draw)
+        };
+        if plan.ordinary.len() > 1 {
+            break plan;
+        }
+    };
+    let often = plan.ordinary.len() / 12 + 1;
+    let first = plan.points() + plan.links.len();
+    let mut inputs = Vec::new();
+    let mut add = |draw: &mut Draw, what: &str, records: &[RawRecord]| {
+        let part: Vec<u8> = records.iter().flat_map(RawRecord::bytes).collect();
+        let events = events_for(draw, &part, &plan);
+        inputs.push(input(what, joined(&part, &events)));
+    };
+    let records = plan.to_records();
+    // Before each but the first, and after the last.
+    for place in 1..=plan.ordinary.len() {
+        if !draw.one_in(often) {
+            continue;
+        }
+        let old = records[first + draw.below(place)];
+        let far = draw.pick(&[100_001, -100_001, i32::MIN, i32::MAX]);
+        let near = draw.pick(&[old.first, old.first + 1, -old.first, 0]);
+        let mut twin = old;
+        twin.first = if draw.one_in(3) { far } else { near };
+        let mut new = records.clone();
+        new.insert(first + place, twin);
+        add(draw, &format!("a twin in ordinary record {place}"), &new);
+        // Two of them, or one and a bound that no record may have: the first bad record is named. A field that is not 0 or a
+        // point that is missing comes before 15.
+        let other = first + draw.below(plan.ordinary.len() + 1);
+        match draw.below(6) {
+            0 => {
+                new.insert(first + place + 1, twin);
+                add(draw, "two twins", &new);
+            }
+            1 => {
+                new[other].first = far;
+                add(draw, "a twin and a bad bound", &new);
+            }
+            2 => {
+                let spoiled = &mut new[first + place];
+                match draw.below(3) {
+                    0 => spoiled.second = 1,
+                    1 => spoiled.code = 1,
+                    _ => spoiled.b = plan.points() as u8,
+                }
+                add(draw, "a twin with another fault", &new);
+            }
+            _ => {}
+        }
+    }
+    let pairs = plan.links.iter().map(|link| (link.a, link.c));
+    let pairs = pairs.chain(plan.waits.iter().map(|wait| (wait.v, wait.c)));
+    let reversed = plan.ordinary.iter().map(|one| (one.y, one.x));
+    for (x, y) in pairs.chain(reversed) {
+        if !draw.one_in(often) {
+            continue;
+        }
+        let mut new = records.clone();
+        let record = RawRecord {
+            kind: 3,
+            a: x as u8,
+            b: y as u8,
+            first: draw.edgy(-9, 9) as i32,
+            ..RawRecord::default()
+        };
+        let place = first + draw.below(plan.ordinary.len() + 1);
+        new.insert(place, record);
+        add(
+            draw,
+            "a pair the other way round, or of a link or a wait",
+            &new,
+        );
+    }
+    if let Some(&wait) = records.last().filter(|record| record.kind == 4) {
+        add(
+            draw,
+            "the same wait twice",
+            &[&records[..], &[wait]].concat(),
+        );
     }
     inputs
 }

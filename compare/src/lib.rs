@@ -10,4 +10,5 @@ pub mod player;
 pub mod printed;
 pub mod programs;
 pub mod requests;
+pub mod sheets;
 pub mod smaller;

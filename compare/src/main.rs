@@ -16,6 +16,10 @@ use std::sync::Mutex;
 use std::thread;
 use std::time::{Duration, Instant};
 
+/// Where something has not come up when the time is over, it goes on for at most so many times as long: under an emulator
+/// inputs come slower.
+const PATIENCE: u32 = 4;
+
 /// Where inputs are kept on which the programs differ.
 const KEPT: &str = "compare/kept";
 
@@ -71,6 +75,7 @@ struct Found {
 struct Shared {
     seed: u64,
     until: Instant,
+    at_most: Instant,
     next_batch: AtomicU64,
     compared: AtomicU64,
     stop: AtomicBool,
@@ -78,13 +83,14 @@ struct Shared {
     counts: Mutex<Vec<Count>>,
 }
 
-/// Compares until the time is over or a difference is found; is all well?
+/// Compares until the time is over and everything has come up, or a difference is found; is all well?
 fn compare(pairs: &[Both], seed: u64, time: Duration) -> io::Result<bool> {
     println!("seed {seed}");
     let start = Instant::now();
     let shared = Shared {
         seed,
         until: start + time,
+        at_most: start + time * PATIENCE,
         next_batch: AtomicU64::new(0),
         compared: AtomicU64::new(0),
         stop: AtomicBool::new(false),
@@ -136,9 +142,20 @@ fn compare(pairs: &[Both], seed: u64, time: Duration) -> io::Result<bool> {
     Ok(missing.is_empty() && strange.is_empty())
 }
 
+/// Is the time over? Not before everything has come up, unless it takes far too long.
+fn over(pairs: &[Both], shared: &Shared) -> bool {
+    let now = Instant::now();
+    if now < shared.until {
+        return false;
+    }
+    let names: Vec<&str> = pairs.iter().map(|both| both.name.as_str()).collect();
+    let counts = shared.counts.lock().expect("no worker fails");
+    shared.at_most <= now || count::complete(&names, &counts)
+}
+
 /// Takes batch after batch, until the time is over, a difference is found or another worker says stop.
 fn work(pairs: &[Both], shared: &Shared) -> io::Result<Option<Found>> {
-    while Instant::now() < shared.until {
+    while !over(pairs, shared) {
         let batch = shared.next_batch.fetch_add(1, Ordering::Relaxed);
         let mut draw = Draw::new(shared.seed, batch);
         let mut counts = vec![Count::default(); pairs.len()];

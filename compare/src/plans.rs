@@ -71,18 +71,14 @@ pub fn any(draw: &mut Draw, sizes: Sizes, scale: i64, hidden: bool) -> Plan {
     for link in &plan.links {
         minutes[link.c] = minutes[link.a] + draw.edgy(link.x, link.y);
     }
-    if sizes.points > 1 {
-        for _ in 0..sizes.ordinary {
-            let x = draw.below(sizes.points);
-            let y = (x + 1 + draw.below(sizes.points - 1)) % sizes.points;
-            let d = if hidden {
-                minutes[y] - minutes[x] + draw.edgy(0, scale)
-            } else {
-                draw.edgy(-scale, scale)
-            };
-            let d = d.clamp(-BOUND, BOUND);
-            plan.ordinary.push(Ordinary { x, d, y });
-        }
+    for (x, y) in pairs(draw, sizes.points).into_iter().take(sizes.ordinary) {
+        let d = if hidden {
+            minutes[y] - minutes[x] + draw.edgy(0, scale)
+        } else {
+            draw.edgy(-scale, scale)
+        };
+        let d = d.clamp(-BOUND, BOUND);
+        plan.ordinary.push(Ordinary { x, d, y });
     }
     if !plan.links.is_empty() {
         for _ in 0..sizes.waits {
@@ -95,6 +91,20 @@ pub fn any(draw: &mut Draw, sizes: Sizes, scale: i64, hidden: bool) -> Plan {
         }
     }
     plan
+}
+
+/// All pairs of different points, in any order: ordinary records on pairs from it are no twins.
+fn pairs(draw: &mut Draw, points: usize) -> Vec<(usize, usize)> {
+    let all = (0..points).flat_map(|x| (0..points).map(move |y| (x, y)));
+    let mut all: Vec<_> = all.filter(|(x, y)| x != y).collect();
+    draw.shuffle(&mut all);
+    all
+}
+
+/// The ordinary record from one point to another, if the plan has one: another one would be its twin.
+fn record_on(plan: &mut Plan, x: usize, y: usize) -> Option<&mut Ordinary> {
+    let mut all = plan.ordinary.iter_mut();
+    all.find(|record| (record.x, record.y) == (x, y))
 }
 
 /// A plan of any size whose runs go on for long: an order of the points is hidden in it, steps are short and upper
@@ -150,9 +160,9 @@ pub fn full(draw: &mut Draw) -> Plan {
     }
 }
 
-/// The haul of document 01, as it stands or with numbers changed a little.
-pub fn haul(draw: &mut Draw) -> Plan {
-    let mut plan = Plan {
+/// The haul of document 01.
+pub fn haul_as_it_stands() -> Plan {
+    Plan {
         ponds: vec![0, 0, 7, 0],
         links: vec![Link {
             a: 1,
@@ -166,14 +176,39 @@ pub fn haul(draw: &mut Draw) -> Plan {
             Ordinary { x: 3, d: 15, y: 2 },
         ],
         waits: vec![Wait { v: 3, c: 2, w: 35 }],
-    };
+    }
+}
+
+/// The haul of document 01, as it stands or with numbers changed a little.
+pub fn haul(draw: &mut Draw) -> Plan {
+    let mut plan = haul_as_it_stands();
     for _ in 0..draw.below(3) {
         near_miss(draw, &mut plan);
     }
     plan
 }
 
-/// Changes one number by 1, or drops or doubles one ordinary record or wait. The plan stays one that a file can hold.
+/// The haul with a drive of nearly 100,000 minutes: the same slack, so it passes the test as the haul does.
+pub fn far_haul(draw: &mut Draw) -> Plan {
+    let mut plan = haul_as_it_stands();
+    let by = BOUND - plan.links[0].y;
+    plan.links[0].x += by;
+    plan.links[0].y += by;
+    plan.waits[0].w += by;
+    plan.ordinary[0].d = draw.pick(&[-BOUND, -10, 0, BOUND]);
+    // A point that goes with nothing, or only starts by some minute.
+    if draw.one_in(2) {
+        plan.ponds.push(0);
+        if draw.one_in(2) {
+            let d = draw.edgy(0, BOUND);
+            plan.ordinary.push(Ordinary { x: 0, d, y: 4 });
+        }
+    }
+    plan
+}
+
+/// Changes one number by 1, or drops an ordinary record or a wait, or adds a record the other way round with hardly any room
+/// or a little too little. The plan stays one that a file can hold: it has no twins.
 pub fn near_miss(draw: &mut Draw, plan: &mut Plan) {
     let by = draw.pick(&[-1, 1]);
     match draw.below(5) {
@@ -195,9 +230,12 @@ pub fn near_miss(draw: &mut Draw, plan: &mut Plan) {
             plan.waits.remove(draw.below(plan.waits.len()));
         }
         4 if !plan.ordinary.is_empty() && plan.ordinary.len() < FULL.ordinary => {
-            let mut again = draw.pick(&plan.ordinary);
-            again.d = (again.d + by).clamp(-BOUND, BOUND);
-            plan.ordinary.push(again);
+            let one = draw.pick(&plan.ordinary);
+            if record_on(plan, one.y, one.x).is_none() {
+                let d = (by - one.d).clamp(-BOUND, BOUND);
+                let (x, y) = (one.y, one.x);
+                plan.ordinary.push(Ordinary { x, d, y });
+            }
         }
         _ => {}
     }
@@ -236,7 +274,7 @@ pub fn passing_larger(draw: &mut Draw) -> Plan {
     }
 }
 
-/// Adds a record or a wait for each pair that the test names; none if that leads nowhere.
+/// Adds or tightens a record, or adds a wait, for each pair that the test names; none if that leads nowhere.
 fn repaired(mut plan: Plan, rounds: usize) -> Option<Plan> {
     if plan_test::projections(&plan).is_none_or(|count| count > 64) {
         return None;
@@ -266,7 +304,10 @@ fn repaired(mut plan: Plan, rounds: usize) -> Option<Plan> {
                 let c = link.c;
                 plan.waits.push(Wait { v: x, c, w: -d });
             }
-            _ => plan.ordinary.push(Ordinary { x, d, y }),
+            _ => match record_on(&mut plan, x, y) {
+                Some(loose) => loose.d = d,
+                None => plan.ordinary.push(Ordinary { x, d, y }),
+            },
         }
         if plan.ordinary.len() > FULL.ordinary || plan.waits.len() > FULL.waits {
             return None;
@@ -328,7 +369,8 @@ pub fn layered(draw: &mut Draw, sizes: Sizes, many: bool) -> Plan {
         let y = x + span - 1;
         plan.links.push(Link { a, x, y, c });
     }
-    while plan.ordinary.len() < sizes.ordinary && sizes.points > 1 {
+    // Not all pairs will do, and those that have a record do not any more: it stops where few are left.
+    for _ in 0..8 * sizes.ordinary {
         let down = !late.is_empty() && draw.one_in(2);
         let k = draw.below(late.len().max(1));
         let (x, d, y) = if down {
@@ -341,9 +383,10 @@ pub fn layered(draw: &mut Draw, sizes: Sizes, many: bool) -> Plan {
                 draw.pick(calm),
             )
         };
-        if x != y {
+        if x != y && record_on(&mut plan, x, y).is_none() {
             plan.ordinary.push(Ordinary { x, d, y });
-        } else if calm.len() == 1 && late.is_empty() && draw.one_in(2) {
+        }
+        if plan.ordinary.len() == sizes.ordinary {
             break;
         }
     }
@@ -358,18 +401,39 @@ pub fn layered(draw: &mut Draw, sizes: Sizes, many: bool) -> Plan {
     plan
 }
 
-/// A chain whose steps are long: the clock goes as far as it can go.
+/// A plan that passes the test, of any of the forms above, most with links and waits.
+pub fn that_passes(draw: &mut Draw) -> Plan {
+    loop {
+        let plan = match draw.below(9) {
+            0 => haul(draw),
+            1 => far_haul(draw),
+            2 | 3 => passing(draw),
+            4 | 5 => passing_larger(draw),
+            6 => chain(draw),
+            _ => {
+                let sizes = Sizes::any(draw);
+                layered(draw, sizes, false)
+            }
+        };
+        if matches!(plan_test::plan_test(&plan), Ok(Answer::Yes(_))) {
+            return plan;
+        }
+    }
+}
+
+/// A chain whose steps are long, in half of them some of a bounded length: the clock goes as far as it can go.
 pub fn chain(draw: &mut Draw) -> Plan {
     let points = 2 + draw.below(31);
     let mut plan = Plan {
         ponds: vec![0; points],
         ..Plan::default()
     };
+    let some_by = draw.one_in(2);
     for y in 0..points - 1 {
         let x = y + 1;
         let step = draw.edgy(BOUND - 2, BOUND);
         plan.ordinary.push(Ordinary { x, d: -step, y });
-        if draw.one_in(3) {
+        if some_by && draw.one_in(2) {
             let d = draw.edgy(step, BOUND);
             plan.ordinary.push(Ordinary { x: y, d, y: x });
         }
@@ -428,6 +492,33 @@ pub fn stuck(draw: &mut Draw) -> Plan {
 #[cfg(test)]
 mod tests {
     use super::*;
+
+    #[test]
+    fn plans_read_back_and_have_no_twins() {
+        for batch in 0..200 {
+            let draw = &mut Draw::new(2, batch);
+            let sizes = Sizes::any(draw);
+            let mut nearly = passing(draw);
+            for _ in 0..4 {
+                near_miss(draw, &mut nearly);
+            }
+            let scale = scale(draw);
+            let all = [
+                any(draw, sizes, scale, true),
+                roomy(draw, sizes),
+                full(draw),
+                haul(draw),
+                far_haul(draw),
+                nearly,
+                passing_larger(draw),
+                chain(draw),
+                stuck(draw),
+            ];
+            for plan in all {
+                assert_eq!(oracle::plan::read(&plan.to_bytes()), Ok(plan));
+            }
+        }
+    }
 
     #[test]
     fn layered_plans_read_back_and_pass() {

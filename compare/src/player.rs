@@ -187,6 +187,11 @@ impl Player<'_> {
         }
     }
 
+    /// The minutes of all points, once all have been played.
+    pub fn minutes(&self) -> Option<Vec<i64>> {
+        self.minutes.iter().copied().collect()
+    }
+
     /// The first constraint that what was played breaks: a duration, an ordinary record or a wait.
     pub fn broken(&self) -> Option<String> {
         let at = |point: usize| self.minutes[point];

@@ -13,13 +13,13 @@ use oracle::plan_test;
 
 const REPLY: u8 = 16;
 const TAKE: u8 = 17;
-const VERDICT: u8 = 18;
+pub const VERDICT: u8 = 18;
 const CHECK: u8 = 19;
 const WRITE: u8 = 20;
 const TEST: u8 = 21;
 const READ: u8 = 22;
 const JUDGE: u8 = 23;
-const STREAM: u8 = 24;
+pub const STREAM: u8 = 24;
 
 /// So many bounds of a list are judged, and so many numbers a stream's room has at most.
 const LIST: usize = 4_096;
@@ -27,17 +27,17 @@ const STREAM_ROOM: usize = 12_288;
 
 /// Requests one after another.
 #[derive(Default)]
-struct Requests(Vec<u8>);
+pub struct Requests(pub Vec<u8>);
 
 impl Requests {
-    fn ask(&mut self, asked: u8, bytes: [u8; 3], numbers: [u32; 3]) {
+    pub fn ask(&mut self, asked: u8, bytes: [u8; 3], numbers: [u32; 3]) {
         self.0.push(asked);
         self.0.extend(bytes);
         self.0
             .extend(numbers.iter().flat_map(|number| number.to_le_bytes()));
     }
 
-    fn call(&mut self, asked: u8) {
+    pub fn call(&mut self, asked: u8) {
         self.ask(asked, [0; 3], [0; 3]);
     }
 
@@ -53,20 +53,30 @@ impl Requests {
         }
     }
 
-    fn plan(&mut self, plan: &Plan) {
+    pub fn plan(&mut self, plan: &Plan) {
         self.records(plan.records() as u32, &plan.to_records());
     }
 
     fn board(&mut self, board: &Board) {
-        self.ask(3, [0; 3], [board.clock, board.done, 0]);
-        for (point, &minute) in board.minutes.iter().enumerate() {
+        self.board_of(board.clock, board.done, &board.minutes);
+    }
+
+    /// A board with the minutes of the first points; those of the others stay.
+    pub fn board_of(&mut self, clock: u32, done: u32, minutes: &[u32]) {
+        self.ask(3, [0; 3], [clock, done, 0]);
+        for (point, &minute) in minutes.iter().enumerate() {
             self.ask(4, [point as u8, 0, 0], [minute, 0, 0]);
         }
     }
 
     /// A buffer with these bytes at its front, and `fill` past them.
-    fn buffer(&mut self, front: &[u8], counts: usize, fill: u8) {
+    pub fn buffer(&mut self, front: &[u8], counts: usize, fill: u8) {
         self.ask(5, [fill, 0, 0], [counts as u32, 0, 0]);
+        self.put(front, fill);
+    }
+
+    /// Bytes at the front of the buffer, with `fill` for those that the last eight lack.
+    pub fn put(&mut self, front: &[u8], fill: u8) {
         for (k, eight) in front.chunks(8).enumerate() {
             let mut bytes = [fill; 8];
             bytes[..eight.len()].copy_from_slice(eight);
@@ -635,17 +645,27 @@ fn streams(draw: &mut Draw) -> Vec<Input> {
     inputs
 }
 
-/// Doubles an ordinary record or a wait until there is one too many, or adds points until there is.
+/// Adds ordinary records or points, or doubles a wait, until there is one too many.
 fn one_too_many(draw: &mut Draw, part: &mut Vec<u8>) {
     let kind = draw.pick(&[1, 3, 4]);
     let mut records: Vec<Vec<u8>> = part.chunks(RECORD).map(<[u8]>::to_vec).collect();
     let count = records.iter().filter(|record| record[0] == kind).count();
+    let points = records.iter().filter(|record| record[0] == 1).count() as u8;
     let most = [0, 32, 8, 256, 64][usize::from(kind)];
+    // Pairs that no ordinary record has: with them it is one too many, and where they run out a twin.
+    let pairs = (0..points).flat_map(|x| (0..points).map(move |y| [x, y]));
+    let free = |pair: &[u8; 2]| {
+        let taken = |record: &Vec<u8>| record[0] == 3 && record[1..3] == *pair;
+        pair[0] != pair[1] && !records.iter().any(taken)
+    };
+    let free: Vec<[u8; 2]> = pairs.filter(free).collect();
     if let Some(last) = records.iter().rposition(|record| record[0] == kind) {
         for k in count..=most {
             let mut more = records[last].clone();
-            if kind == 1 {
-                more[1] = k as u8;
+            match free.get(k - count) {
+                Some(pair) if kind == 3 => more[1..3].copy_from_slice(pair),
+                _ if kind == 1 => more[1] = k as u8,
+                _ => {}
             }
             records.insert(last + 1 + k - count, more);
         }

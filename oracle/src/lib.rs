@@ -9,6 +9,7 @@ pub mod plan_test;
 pub mod probe;
 pub mod text;
 pub mod verdict;
+pub mod worst;
 
 /// A reply number and the record beside it; 0 where the number has no record of its own.
 pub type Refusal = (u32, u32);

@@ -1,4 +1,4 @@
-//! A plan, its file, and reply numbers 1 to 12.
+//! A plan, its file, and reply numbers 1 to 12 and 15.
 
 use crate::Refusal;
 
@@ -79,7 +79,7 @@ impl Plan {
         self.link_to(wait.c).expect("the C of a wait is watched")
     }
 
-    /// Adds the next record of a file, or answers a number 4 to 11.
+    /// Adds the next record of a file, or answers a number 4 to 11, or 15.
     fn add(&mut self, kind_before: u8, record: &[u8]) -> Result<(), u32> {
         let kind = record[0];
         if !(1..=4).contains(&kind) {
@@ -153,6 +153,11 @@ impl Plan {
     }
 
     fn add_ordinary(&mut self, new: Ordinary) -> Result<(), u32> {
+        // Document 02, twin records: an earlier one from the same point to the same point.
+        let twin = |old: &Ordinary| (old.x, old.y) == (new.x, new.y);
+        if self.ordinary.iter().any(twin) {
+            return Err(15);
+        }
         if !(-BOUND..=BOUND).contains(&new.d) {
             return Err(11);
         }

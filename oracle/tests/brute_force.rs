@@ -542,7 +542,8 @@ fn a_plan_has_one_file() {
                 good += 1;
             }
             Err((number, record)) => {
-                assert!((4..=11).contains(&number) && (record as usize) < file.len() / 16);
+                assert!((4..=11).contains(&number) || number == 15);
+                assert!((record as usize) < file.len() / 16);
                 // The records before the bad one are a plan, or there are none.
                 let before = &file[..16 * record as usize];
                 assert!(before.is_empty() || read(before).is_ok());

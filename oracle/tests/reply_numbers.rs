@@ -96,9 +96,9 @@ fn number_6_one_too_many() {
     let links: Vec<_> = (0..9).map(|n| link(n, 1, 2, n + 10)).collect();
     assert_eq!(refusal(32, &links[..8]), (0, 0));
     assert_eq!(refusal(32, &links), (6, 40));
-    let ordinaries = vec![ordinary(0, 1, 1); 257];
-    assert_eq!(refusal(2, &ordinaries[..256]), (0, 0));
-    assert_eq!(refusal(2, &ordinaries), (6, 258));
+    let ordinaries = ordinaries(257);
+    assert_eq!(refusal(32, &ordinaries[..256]), (0, 0));
+    assert_eq!(refusal(32, &ordinaries), (6, 288));
     let mut waits = vec![link(0, 1, 2, 1)];
     waits.extend(vec![wait(2, 1, 1); 65]);
     assert_eq!(refusal(3, &waits[..65]), (0, 0));
@@ -215,6 +215,54 @@ fn number_11_bounds() {
         [11, 0, 0, 11]
     );
     assert_eq!([wait_of(-1), wait_of(i32::MIN)], [11, 11]);
+}
+
+/// Document 02, twin records.
+#[test]
+fn number_15_twins() {
+    let (tight, loose) = (ordinary(0, -5, 1), ordinary(0, 9, 1));
+    let other = ordinary(1, 3, 2);
+    // Whatever the bounds, and at the second of the two.
+    assert_eq!(refusal(3, &[tight, loose]), (15, 4));
+    assert_eq!(refusal(3, &[loose, tight]), (15, 4));
+    assert_eq!(refusal(3, &[tight, tight]), (15, 4));
+    assert_eq!(refusal(3, &[tight, other, loose]), (15, 5));
+    assert_eq!(
+        refusal(3, &[other, tight, ordinary(2, 1, 0), loose]),
+        (15, 6)
+    );
+    assert_eq!(refusal(3, &[tight, loose, tight]), (15, 4));
+    // The other way round, from the same point, or to the same point, is no twin.
+    assert_eq!(refusal(3, &[tight, ordinary(1, -5, 0)]), (0, 0));
+    assert_eq!(refusal(3, &[tight, ordinary(0, -5, 2)]), (0, 0));
+    assert_eq!(refusal(3, &[tight, ordinary(2, -5, 1)]), (0, 0));
+    // Nor is a link or a wait on the same two points, and two waits are none.
+    let started = link(0, 1, 9, 1);
+    assert_eq!(refusal(3, &[started, tight]), (0, 0));
+    assert_eq!(
+        refusal(3, &[started, ordinary(2, -5, 1), wait(2, 1, 4)]),
+        (0, 0)
+    );
+    assert_eq!(refusal(3, &[started, wait(2, 1, 4), wait(2, 1, 5)]), (0, 0));
+    // At each place among many.
+    let all = ordinaries(256);
+    for place in 1..256 {
+        for of in [0, place / 2, place - 1] {
+            let mut some = all.clone();
+            some[place] = ordinary(all[of].a, 3, all[of].b);
+            assert_eq!(refusal(32, &some), (15, 32 + place as u32));
+        }
+    }
+    // After 6, 7, 8 and 9, and before 11.
+    let one_more = [&all[..], &[all[0]]].concat();
+    assert_eq!(refusal(32, &one_more), (6, 288));
+    assert_eq!(refusal(3, &[tight, record(3, 0, 1, 9, 1, 0)]), (7, 4));
+    assert_eq!(refusal(3, &[tight, ordinary(0, 9, 3)]), (8, 4));
+    assert_eq!(refusal(3, &[tight, ordinary(0, 9, 0)]), (9, 4));
+    assert_eq!(refusal(3, &[tight, ordinary(0, 100_001, 1)]), (15, 4));
+    assert_eq!(refusal(3, &[tight, ordinary(0, i32::MIN, 1)]), (15, 4));
+    // A record that is refused itself comes first.
+    assert_eq!(refusal(3, &[ordinary(0, 100_001, 1), tight]), (11, 3));
 }
 
 #[test]

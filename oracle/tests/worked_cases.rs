@@ -108,7 +108,7 @@ fn case_11_room() {
     for n in 0..8 {
         rest.push(link(n, 1, 2, 8 + n));
     }
-    rest.extend([ordinary(0, 7, 1)].repeat(256));
+    rest.extend(ordinaries(256));
     rest.extend([wait(20, 8, 2)].repeat(64));
     let full = records(32, &rest);
     assert_eq!(full.len(), 360);

@@ -4,14 +4,14 @@
 use compare::count::Count;
 use compare::draw::Draw;
 use compare::events::MARK;
-use compare::plans::{self, Sizes};
+use compare::plans;
 use compare::player::Player;
 use compare::printed::{self, Place, Printed, Reply};
 use compare::programs;
+use compare::sheets;
 use oracle::board::{self, Board};
 use oracle::event;
 use oracle::plan::{Plan, BOUND};
-use oracle::plan_test::{self, Answer};
 use std::io;
 use std::process::ExitCode;
 use std::time::Instant;
@@ -70,7 +70,7 @@ fn play(seed: u64, games: u64, words: &[String]) -> io::Result<bool> {
     let (mut points, mut events) = (0, 0);
     for game in 0..games {
         let draw = &mut Draw::new(seed, game);
-        let plan = plan(draw);
+        let plan = plans::that_passes(draw);
         let mut player = Player::new(draw, &plan);
         let wrong = if game % STEPWISE == 0 {
             count.one("games from printed replies".to_string());
@@ -108,25 +108,6 @@ fn play(seed: u64, games: u64, words: &[String]) -> io::Result<bool> {
         println!("never came up: {key}");
     }
     Ok(missing.is_empty())
-}
-
-/// A plan that passes the test, most of them with links and waits.
-fn plan(draw: &mut Draw) -> Plan {
-    loop {
-        let plan = match draw.below(8) {
-            0 => plans::haul(draw),
-            1 | 2 => plans::passing(draw),
-            3 | 4 => plans::passing_larger(draw),
-            5 => plans::chain(draw),
-            _ => {
-                let sizes = Sizes::any(draw);
-                plans::layered(draw, sizes, false)
-            }
-        };
-        if matches!(plan_test::plan_test(&plan), Ok(Answer::Yes(_))) {
-            return plan;
-        }
-    }
 }
 
 fn input(plan: &Plan, player: &Player) -> Vec<u8> {
@@ -248,5 +229,10 @@ fn wrong(plan: &Plan, player: &Player, printed: &Printed) -> Option<String> {
         return Some(format!("end {}", printed.end));
     }
     // The same by what was played, so that `kept` is not taken on the program's word.
-    player.broken().map(|what| format!("not kept: {what}"))
+    if let Some(what) = player.broken() {
+        return Some(format!("not kept: {what}"));
+    }
+    // What events finish is a good sheet: the first minute and all gaps too.
+    let faults = sheets::faults(plan, &player.minutes()?);
+    (!faults.is_empty()).then(|| format!("no good sheet: {faults:?}"))
 }

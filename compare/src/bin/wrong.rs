@@ -1,10 +1,12 @@
-//! Shows that the comparison finds what is wrong: wrong SEED SECONDS
+//! Shows that the comparison finds what is wrong: wrong SEED SECONDS [TEXT]
 //! Started by compare/wrong from the folder above. Each wrong version is bench/plain.c with one text replaced; it is compared
-//! with the independent program as our programs are, and a difference has to come up in so many seconds.
+//! with the independent program as our programs are, and a difference has to come up in so many seconds. Some are given
+//! good sheets and near misses instead, as compare/sheets gives them, and have to forbid a good one or take another. With TEXT
+//! only those are tried of which it is a part of the description, or the name of what shows them.
 
 use compare::draw::Draw;
 use compare::programs::{self, Both, Way};
-use compare::{inputs, requests};
+use compare::{inputs, plans, requests, sheets};
 use std::io;
 use std::path::Path;
 use std::process::{Command, ExitCode};
@@ -12,10 +14,12 @@ use std::time::{Duration, Instant};
 
 const PLAIN: &str = "bench/plain.c";
 const THEIRS: &str = "oracle/target/release/oracle-";
+/// Shown by sheets of plans that pass the test, given to the printing program.
+const SHEETS: &str = "sheets";
 
 struct Wrong {
     what: &'static str,
-    /// The program that has to show it.
+    /// The program that has to show it, or `sheets`.
     shown_by: &'static str,
     right: &'static str,
     wrong: &'static str,
@@ -101,6 +105,70 @@ const ALL: &[Wrong] = &[
         "x may be y",
         "r->first >= r->second",
         "r->first > r->second",
+    ),
+    wrong(
+        "sheet",
+        "twins are taken",
+        "if (has(s->joined[r->a], r->b)) return 15;",
+        "",
+    ),
+    wrong(
+        "sheet",
+        "15 comes after 11",
+        "if (has(s->joined[r->a], r->b)) return 15;
+            if (r->first < -FARTHEST || r->first > FARTHEST) return 11;",
+        "if (r->first < -FARTHEST || r->first > FARTHEST) return 11;
+            if (has(s->joined[r->a], r->b)) return 15;",
+    ),
+    wrong(
+        "sheet",
+        "15 comes before 7",
+        "if (!zeros) return 7;",
+        "if (r->kind == ORDINARY && r->a < POINTS && has(s->joined[r->a], r->b)) return 15;
+    if (!zeros) return 7;",
+    ),
+    wrong(
+        "sheet",
+        "15 comes before 6",
+        "if (s->counts[r->kind] == most[r->kind]) return 6;",
+        "if (r->kind == ORDINARY && reserved == 0 && r->a < POINTS && has(s->joined[r->a], r->b) && r->second == 0 && r->code == 0) return 15;
+    if (s->counts[r->kind] == most[r->kind]) return 6;",
+    ),
+    wrong(
+        "sheet",
+        "the pair the other way round is a twin",
+        "s->joined[r->a] |= 1u << r->b;",
+        "s->joined[r->a] |= 1u << r->b, s->joined[r->b] |= 1u << r->a;",
+    ),
+    wrong(
+        "sheet",
+        "only the record before is looked at for a twin",
+        "s->joined[r->a] |= 1u << r->b;",
+        "memset(s->joined, 0, sizeof s->joined);
+            s->joined[r->a] |= 1u << r->b;",
+    ),
+    wrong(
+        "sheet",
+        "a link has twins",
+        "s->starts |= 1u << r->a;",
+        "s->starts |= 1u << r->a, s->joined[r->a] |= 1u << r->b;",
+    ),
+    wrong(
+        "sheet",
+        "a wait is a twin of an ordinary record",
+        "if (r->first < 1 || r->first > s->longest[r->b]) return 11;",
+        "if (has(s->joined[r->a], r->b)) return 15;
+            if (r->first < 1 || r->first > s->longest[r->b]) return 11;",
+    ),
+    wrong(
+        "sheet",
+        "the first of two twins is named",
+        "if (number) return (refusal){number, i};",
+        "if (number == 15)
+            for (u32 k = 0; k < i; k++)
+                if (p->records[k].kind == ORDINARY && p->records[k].a == p->records[i].a && p->records[k].b == p->records[i].b)
+                    return (refusal){15, k};
+        if (number) return (refusal){number, i};",
     ),
     wrong(
         "sheet",
@@ -360,20 +428,114 @@ const ALL: &[Wrong] = &[
         "if (left) put_line(\"tail\", NULL, 0);",
         "",
     ),
+    // Each of the next eight forbids some good sheet.
+    wrong(
+        SHEETS,
+        "an offer ends one minute sooner",
+        "i64 furthest = (i64)b->clock + FARTHEST;",
+        "i64 furthest = (i64)b->clock + FARTHEST - 1;",
+    ),
+    wrong(
+        SHEETS,
+        "a point is taken at its Low only",
+        "minute < w.lows[v]) return 29;",
+        "minute != w.lows[v]) return 29;",
+    ),
+    wrong(
+        SHEETS,
+        "one foreman's point a minute",
+        "if (minute < b->clock) return 24;",
+        "if (minute < b->clock || (v != 255 && b->done && minute == b->clock)) return 24;",
+    ),
+    wrong(
+        SHEETS,
+        "a wait counts in its C's minute",
+        "else if (!has(b->done, r->b)) {\n                i64 low = (i64)b->minutes[a] + r->first;",
+        "else if (!has(b->done, r->b) || b->minutes[r->b] == b->clock) {\n                i64 low = (i64)b->minutes[a] + r->first;
+                if (has(b->done, r->b) && low > b->clock + 1) low = b->clock + 1;",
+    ),
+    wrong(
+        SHEETS,
+        "d = 0 shuts a point",
+        "} else if (r->first < 0) shut",
+        "} else if (r->first <= 0) shut",
+    ),
+    wrong(
+        SHEETS,
+        "links end one by one",
+        "if (minute < b->clock) return 24;",
+        "if (minute < b->clock || (set & (set - 1))) return 24;",
+    ),
+    wrong(
+        SHEETS,
+        "the first minute may not be the farthest",
+        "return b->clock <= FARTHEST * (u32)__builtin_popcount(b->done);",
+        "return b->clock < FARTHEST * (u32)__builtin_popcount(b->done) || b->clock == 0;",
+    ),
+    wrong(
+        SHEETS,
+        "the latest is one before H where a point has more room",
+        "return w->high < furthest ? w->high : furthest;",
+        "i64 least = FARTHEST * 64;
+    for (u32 rest = w->opens; rest; rest &= rest - 1)
+        if (w->lows[__builtin_ctz(rest)] < least) least = w->lows[__builtin_ctz(rest)];
+    return w->high < furthest ? w->high - (least < w->high) : furthest;",
+    ),
+    // Each of these takes some near miss.
+    wrong(
+        SHEETS,
+        "an offer reaches one minute further",
+        "i64 furthest = (i64)b->clock + FARTHEST;",
+        "i64 furthest = (i64)b->clock + FARTHEST + 1;",
+    ),
+    wrong(
+        SHEETS,
+        "a wait may be one minute short",
+        "i64 low = (i64)b->minutes[a] + r->first;",
+        "i64 low = (i64)b->minutes[a] + r->first - 1;",
+    ),
+    wrong(
+        SHEETS,
+        "a point at its C's minute may come before it",
+        "i64 low = (i64)b->minutes[a] + r->first;",
+        "i64 low = (i64)b->minutes[a] + r->first;
+                if (low > (i64)b->minutes[a] + l->x[r->b]) low = (i64)b->minutes[a] + l->x[r->b];",
+    ),
+    wrong(
+        SHEETS,
+        "a step back of d may be one minute short",
+        "i64 low = (i64)b->minutes[r->b] - r->first;",
+        "i64 low = (i64)b->minutes[r->b] - r->first - 1;",
+    ),
+    wrong(
+        SHEETS,
+        "a point may come one minute past its High",
+        "i64 high = (i64)b->minutes[r->a] + r->first;",
+        "i64 high = (i64)b->minutes[r->a] + r->first + 1;",
+    ),
+    wrong(
+        SHEETS,
+        "an end one minute soon is taken",
+        "if (duration < l.x[c] ||",
+        "if (duration + 1 < l.x[c] ||",
+    ),
 ];
 
 fn main() -> ExitCode {
     let words: Vec<String> = std::env::args().collect();
     let numbers = match &words[..] {
-        [_, seed, seconds] => seed.parse().ok().zip(seconds.parse().ok()),
+        [_, seed, seconds] | [_, seed, seconds, _] => seed.parse().ok().zip(seconds.parse().ok()),
         _ => None,
     };
     let Some((seed, seconds)) = numbers else {
-        eprintln!("usage: wrong SEED SECONDS");
+        eprintln!("usage: wrong SEED SECONDS [TEXT]");
         return ExitCode::from(2);
     };
+    let text = words.get(3).map_or("", String::as_str);
+    let chosen = |one: &&Wrong| one.what.contains(text) || one.shown_by == text;
+    let chosen: Vec<&Wrong> = ALL.iter().filter(chosen).collect();
     programs::watch();
-    match find_all(seed, Duration::from_secs(seconds)) {
+    match find_all(&chosen, seed, Duration::from_secs(seconds)) {
         Ok(0) => ExitCode::SUCCESS,
         Ok(_) => ExitCode::FAILURE,
         Err(error) => {
@@ -383,25 +545,31 @@ fn main() -> ExitCode {
     }
 }
 
-/// Tries all wrong versions; answers how many are not found.
-fn find_all(seed: u64, patience: Duration) -> io::Result<usize> {
+/// Tries these wrong versions; answers how many are not found.
+fn find_all(chosen: &[&Wrong], seed: u64, patience: Duration) -> io::Result<usize> {
     let source = std::fs::read_to_string(PLAIN)?;
     let folder = std::env::temp_dir().join(format!("wrong-{}", std::process::id()));
     std::fs::create_dir_all(&folder)?;
     let mut missed = 0;
-    for one in ALL {
+    for one in chosen {
         if source.matches(one.right).count() != 1 {
             let what = format!("{}: its text is not once in {PLAIN}", one.what);
             return Err(io::Error::other(what));
         }
         let program = build(&folder, &source.replace(one.right, one.wrong))?;
-        let both = Both {
-            name: one.shown_by.to_string(),
-            ours: vec![program, one.shown_by.to_string()],
-            theirs: format!("{THEIRS}{}", one.shown_by),
-            scratch: folder.join("input"),
+        let found = if one.shown_by == SHEETS {
+            let words = [program, "sheet".to_string()];
+            find_by_sheets(&words, seed, patience)?
+        } else {
+            let both = Both {
+                name: one.shown_by.to_string(),
+                ours: vec![program, one.shown_by.to_string()],
+                theirs: format!("{THEIRS}{}", one.shown_by),
+                scratch: folder.join("input"),
+            };
+            find(&both, seed, patience)?
         };
-        match find(&both, seed, patience)? {
+        match found {
             Some(after) => println!("found after {after:>5} inputs: {}", one.what),
             None => {
                 println!("NOT FOUND: {}", one.what);
@@ -410,7 +578,7 @@ fn find_all(seed: u64, patience: Duration) -> io::Result<usize> {
         }
     }
     std::fs::remove_dir_all(&folder)?;
-    println!("{} wrong versions, {missed} not found", ALL.len());
+    println!("{} wrong versions, {missed} not found", chosen.len());
     Ok(missed)
 }
 
@@ -444,6 +612,27 @@ fn find(both: &Both, seed: u64, patience: Duration) -> io::Result<Option<usize>>
             if start.elapsed() > patience {
                 return Ok(None);
             }
+        }
+    }
+    Ok(None)
+}
+
+/// The number of sheets after which one does not go as it must.
+fn find_by_sheets(words: &[String], seed: u64, patience: Duration) -> io::Result<Option<usize>> {
+    let start = Instant::now();
+    let mut after = 0;
+    for batch in 0.. {
+        let draw = &mut Draw::new(seed, batch);
+        let plan = plans::that_passes(draw);
+        for sheet in sheets::drawn(draw, &plan) {
+            after += 1;
+            let shown = programs::run(words, &sheet.input(&plan))?;
+            if sheets::held(&sheet, &shown.bytes).is_err() {
+                return Ok(Some(after));
+            }
+        }
+        if start.elapsed() > patience {
+            return Ok(None);
         }
     }
     Ok(None)

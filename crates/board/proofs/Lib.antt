@@ -1,11 +1,7 @@
 -- The modules of proofs that belong to no one function. Other crates cite the ones that are `pub`.
-mod Linking
-mod Walks
-pub mod Broken
+mod Marking
 pub mod Theorems
-mod Minus
-mod Windowing
 mod Opening
-mod Replying
+pub mod Replying
 mod Taking
 mod Streaming

@@ -1,6 +1,6 @@
 -- Taking an event: the tests of its set on a plan's links say what the rules say, and so do those of its point on the
 -- windows; then the number of the whole event, and the board after it. Assumes nothing.
-use mathlib.Core.Path.{_≡_, refl, sym}
+use mathlib.Core.Path.{_≡_, refl, sym, _∙_}
 use mathlib.Core.Bool.{Bool, true, false, not, cond, _&&_, _||_, true≢false}
 use mathlib.Core.List.{List, _∷_}
 use Prim.Native.Nat.{ℕ, zero, suc, _+_, _-_, _≤_, _<_, min}
@@ -13,50 +13,22 @@ use Rattle.plan.specs.Choice.{if_then_else_}
 use Rattle.plan.specs.Limits.{mostPoints, farthest, recordBytes}
 use Rattle.plan.specs.APlan.{points, watched, linkTo}
 use Rattle.plan.specs.PlanFile.{wordAt}
-use Rattle.plan.specs.declared.Record.{Record}
+use Rattle.records.specs.declared.Record.{Record}
 use Rattle.board.specs.Boards.{isDone, running}
 use Rattle.board.specs.Windows.{isOpen, low, someOpen}
-use Rattle.board.specs.Replies.{finished, stuck, latest}
+use Rattle.board.specs.Stuck.{finished, stuck, latest}
 use Rattle.board.specs.Events.{eventMinute, eventPoint, eventSet, noPoint, wellFormed, endsRunning, inTime, eventNumber, boardAfter, taken}
-use Rattle.board.specs.Inside.{LinksOf, eventIn, formedFor, runsAt, timelyAt, setNumber, pointNumber, pointFrom, afterEvent, takenNext}
+use Rattle.links.specs.Inside.{LinksOf, runsAt, timelyAt, setNumber}
+use Rattle.events.specs.Inside.{eventIn}
+use Rattle.events.proofs.Forming.{formed-point}
+use Rattle.windows.specs.Inside.{latestFrom, pointFrom, laterNumber, Numbered}
+use Rattle.board.specs.Inside.{pointNumber, afterEvent, takenNext}
 use Rattle.board.specs.InsideReplies.{WindowsOf}
 use Rattle.board.specs.declared.Board.{Board}
-use Rattle.board.specs.declared.links.Links.{Links}
-use Rattle.board.specs.declared.windows.Windows.{Windows}
-use Rattle.board.proofs.Windowing.{runs}
-use Rattle.board.proofs.Replying.{nothing-open, something-open}
-
--- two tests that agree below 32 agree on the members of a set
-same-passing : (f g : ℕ → Bool) (s n p : ℕ) → ((q : ℕ) → q < p + n → f q ≡ g q) → every f (passing (member s) (from p n)) ≡ every g (passing (member s) (from p n))
-unfolding every passing from
-same-passing f g s zero p h = refl
-same-passing f g s (suc n) p h = go (member s p) (same-passing f g s n (suc p) (λ q l. h q (omega arith)))
-  where
-    rest : List ℕ
-    rest = passing (member s) (from (suc p) n)
-
-    go : (b : Bool) → every f rest ≡ every g rest → every f (cond b (p ∷ rest) rest) ≡ every g (cond b (p ∷ rest) rest)
-    go true e = rw (h p (omega arith), e)
-    go false e = e
-
-same-members : (f g : ℕ → Bool) (s : ℕ) → ((q : ℕ) → q < mostPoints → f q ≡ g q) → every f (membersOf s) ≡ every g (membersOf s)
-unfolding membersOf
-same-members f g s h = same-passing f g s 32 0 (λ q l. h q (omega arith))
-
--- the tests of the set
-module _ (rs : List Record) (l : Links) (w : LinksOf rs l) (b : Board) where
-  runs-at : (c : ℕ) → c < mostPoints → runsAt (b .done) l c ≡ endsRunning rs b c
-  runs-at c h = rw (w .watches c h, w .ends c h) (go (watched rs c) refl)
-    where
-      go : (k : Bool) → watched rs c ≡ k → (k && (isDone b (linkTo rs c .a) && not (isDone b c))) ≡ (k && running b (linkTo rs c))
-      go true e = sym (runs rs b c e)
-      go false e = refl
-
-  pub all-run : (s : ℕ) → every (runsAt (b .done) l) (membersOf s) ≡ every (endsRunning rs b) (membersOf s)
-  all-run s = same-members (runsAt (b .done) l) (endsRunning rs b) s runs-at
-
-  pub all-timely : (t s : ℕ) → every (timelyAt b l t) (membersOf s) ≡ every (inTime rs b t) (membersOf s)
-  all-timely t s = same-members (timelyAt b l t) (inTime rs b t) s (λ c h. rw (w .ends c h))
+use Rattle.links.specs.declared.Links.{Links}
+use Rattle.windows.specs.declared.Windows.{Windows}
+use Rattle.board.proofs.Opening.{windows-here}
+use Rattle.board.proofs.Replying.{nothing-open, something-open, stuck-here}
 
 -- the tests of the foreman's point
 module _ (rs : List Record) (b : Board) (w : Windows) (ws : WindowsOf rs b w) where
@@ -84,10 +56,6 @@ module _ (rs : List Record) (b : Board) (w : Windows) (ws : WindowsOf rs b w) wh
 
 -- the number of the whole event
 module _ (rs : List Record) (b : Board) (s : List ℕ) where
-  pub formed-same : formedFor (points rs) s ≡ wellFormed rs s
-  unfolding formedFor
-  formed-same = refl
-
   pub number-finished : finished rs b ≡ true → 21 ≡ eventNumber rs b s
   unfolding eventNumber
   number-finished e = rw e
@@ -102,41 +70,42 @@ module _ (rs : List Record) (b : Board) (s : List ℕ) where
       unfolding eventNumber
       number-formed e = rw (f, k, e)
 
-      pub number-rest : wellFormed rs s ≡ true → setNumber rs b (eventMinute s) (eventSet s) (pointNumber rs b (eventMinute s) (eventPoint s)) ≡ eventNumber rs b s
+      pub number-rest : wellFormed rs s ≡ true → setNumber rs (b .clock) (b .done) (b .minutes) (eventMinute s) (eventSet s) (pointNumber rs b (eventMinute s) (eventPoint s)) ≡ eventNumber rs b s
       unfolding eventNumber setNumber pointNumber
       number-rest e = rw (f, k, e)
 
--- an event that is well formed has sixteen bytes, and its point, if it has one, is below 32
-parts : (a b c d : Bool) → (a && (b && (c && d))) ≡ true → (a ≡ true) × (c ≡ true)
-parts true true true d e = (refl, refl)
-parts true true false d e = absurd (true≢false (sym e))
-parts true false c d e = absurd (true≢false (sym e))
-parts false b c d e = absurd (true≢false (sym e))
+      -- 23 to 30 from the windows
+      pub number-later : (w : Windows) → WindowsOf rs b w → points rs ≤ mostPoints → laterNumber rs (b .clock) (b .done) (b .minutes) w s ≡ eventNumber rs b s
+      unfolding laterNumber
+      number-later w ws few = go (wellFormed rs s) refl
+        where
+          go : (t : Bool) → wellFormed rs s ≡ t
+              → (if not t then 23
+              else setNumber rs (b .clock) (b .done) (b .minutes) (eventMinute s) (eventSet s) (pointFrom w (latestFrom (b .clock) (w .high)) (eventMinute s) (eventPoint s)))
+              ≡ eventNumber rs b s
+          go false e = number-formed e
+          go true e = rw (point-same rs b w ws _ (eventMinute s) (eventPoint s) refl (formed-point (points rs) s e few)) (number-rest e)
 
-module _ (n : ℕ) (s : List ℕ) (e : formedFor n s ≡ true) where
-  said : (eqb (length s) recordBytes ≡ true) × ((eqb (eventPoint s) noPoint || ltb (eventPoint s) n) ≡ true)
-  unfolding formedFor
-  said =
-      parts
-      (eqb (length s) recordBytes)
-      (eqb (getD s 5 0) 0 && (eqb (getD s 6 0) 0 && (eqb (getD s 7 0) 0 && eqb (wordAt s 12) 0)))
-      (eqb (eventPoint s) noPoint || ltb (eventPoint s) n)
-      (subsetOf (eventSet s) (belowOf n) && not (eqb (eventPoint s) noPoint && eqb (eventSet s) 0))
-      e
+-- the number that the windows give
+module _ (rs : List Record) (b : Board) (s : List ℕ) (few : points rs ≤ mostPoints) (n : ℕ) (num : Numbered rs (b .clock) (b .done) (b .minutes) s n) where
+  by-stuck : finished rs b ≡ false → (w : Windows) → WindowsOf rs b w → (k : Bool) → stuck rs b ≡ k
+      → (if k then 22 else laterNumber rs (b .clock) (b .done) (b .minutes) w s) ≡ eventNumber rs b s
+  by-stuck f w ws true e = number-stuck rs b s f e
+  by-stuck f w ws false e = number-later rs b s f e w ws few
 
-  pub formed-length : length s ≡ recordBytes
-  formed-length = eqb-true (length s) recordBytes (said .0)
+  by-finished : (k : Bool) → finished rs b ≡ k → n ≡ eventNumber rs b s
+  by-finished true f = num .finished f ∙ number-finished rs b s f
+  by-finished false f =
+      let q = num .windows f in
+      let ws = windows-here rs b (q .0) (q .1) in
+      (rw (stuck-here rs b (q .0) ws) at (q .2)) ∙ by-stuck f (q .0) ws (stuck rs b) refl
 
-  pub formed-point : n ≤ mostPoints → (eqb (eventPoint s) noPoint || ltb (eventPoint s) mostPoints) ≡ true
-  formed-point m = go (eqb (eventPoint s) noPoint) (said .1)
-    where
-      go : (k : Bool) → (k || ltb (eventPoint s) n) ≡ true → (k || ltb (eventPoint s) mostPoints) ≡ true
-      go true x = refl
-      go false x = lt-ltb (eventPoint s) mostPoints (omega (arith, ltb-true (eventPoint s) n x))
+  pub number-here : n ≡ eventNumber rs b s
+  number-here = by-finished (finished rs b) refl
 
 -- an event of number 0 is well formed
-pub taken-formed : (rs : List Record) (b : Board) (s : List ℕ) → eventNumber rs b s ≡ 0 → formedFor (points rs) s ≡ true
-unfolding eventNumber formedFor
+pub taken-formed : (rs : List Record) (b : Board) (s : List ℕ) → eventNumber rs b s ≡ 0 → wellFormed rs s ≡ true
+unfolding eventNumber
 taken-formed rs b s = go (finished rs b) (stuck rs b) (wellFormed rs s) _
   where
     go : (x y z : Bool) (n : ℕ) → (if x then 21 else if y then 22 else if not z then 23 else n) ≡ 0 → z ≡ true

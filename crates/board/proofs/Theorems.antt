@@ -6,5 +6,3 @@ pub mod Links
 pub mod Low
 pub mod Marks
 pub mod Taking
-pub mod Offered
-pub mod Numbers

@@ -1,58 +1,43 @@
 -- Document 01, "Events": the sixteen bytes of an event, the numbers 21 to 30 in order, and the board after an event that
--- is taken. rs are the plan's records, b the board before the event, s the event's bytes. Assumes nothing.
-use mathlib.Core.Bool.{Bool, true, false, not, _&&_, _||_}
+-- is taken. rs are the plan's records, b the board before the event, s the event's bytes. What the bytes say is said in
+-- `Fields` of `events`, and 25 to 27 by the done set and the minutes in `Ending` of `links` and `History` of `history`.
+-- Assumes nothing.
+use mathlib.Core.Bool.{Bool, not, _&&_, _||_}
 use mathlib.Core.List.{List, [], _∷_, _++_}
-use Prim.Native.Nat.{ℕ, _+_, _-_}
+use Prim.Native.Nat.{ℕ}
 use lib.Dec.{eqb, ltb, leb}
-use lib.ListN.{length, getD, set}
-use Rattle.points.specs.Sets.{member, membersOf, withOf, belowOf, subsetOf, every}
+use lib.ListN.{set}
+use Rattle.points.specs.Sets.{membersOf, withOf, every}
 use Rattle.plan.specs.Choice.{if_then_else_}
-use Rattle.plan.specs.Limits.{recordBytes}
-use Rattle.plan.specs.APlan.{points, watched, linkTo, recordsOf}
-use Rattle.plan.specs.PlanFile.{wordAt}
+use Rattle.plan.specs.APlan.{points, recordsOf}
 use Rattle.plan.specs.ReplyNumbers.{checkOf}
-use Rattle.plan.specs.declared.Record.{Record}
+use Rattle.records.specs.declared.Record.{Record}
 use Rattle.plan.specs.declared.Plan.{Plan}
-use Rattle.board.specs.Boards.{sound, minute, running, shortest, longest, each}
+use Rattle.history.specs.History as history
+use Rattle.links.specs.Ending as links
+use Rattle.events.specs.Fields as events
+pub use Rattle.events.specs.Fields.{eventMinute, eventPoint, noPoint, eventSet}
+use Rattle.board.specs.Boards.{sound, each}
 use Rattle.board.specs.Windows.{isOpen, low, someOpen}
-use Rattle.board.specs.Replies.{finished, stuck, latest}
+use Rattle.board.specs.Stuck.{finished, stuck, latest}
 use Rattle.board.specs.declared.Board.{Board}
 use Rattle.board.specs.declared.Taken.{Taken}
 
--- 0..4 the minute; 4 the foreman's point or 255 for none; 8..12 the set of watched points
-abbrev pub eventMinute : List ℕ → ℕ
-eventMinute s = wordAt s 0
-
-abbrev pub eventPoint : List ℕ → ℕ
-eventPoint s = getD s 4 0
-
-abbrev pub noPoint : ℕ
-noPoint = 255
-
-abbrev pub eventSet : List ℕ → ℕ
-eventSet s = wordAt s 8
-
 -- 23: sixteen bytes, reserved bytes zero, every point in the plan, and at least one point
 abbrev pub wellFormed : List Record → List ℕ → Bool
-wellFormed rs s =
-    eqb (length s) recordBytes
-    && ((eqb (getD s 5 0) 0 && (eqb (getD s 6 0) 0 && (eqb (getD s 7 0) 0 && eqb (wordAt s 12) 0)))
-    && ((eqb (eventPoint s) noPoint || ltb (eventPoint s) (points rs))
-    && (subsetOf (eventSet s) (belowOf (points rs))
-    && not (eqb (eventPoint s) noPoint && eqb (eventSet s) 0))))
+wellFormed rs s = events.wellFormed (points rs) s
 
 -- 25: the point c ends a running link
 abbrev pub endsRunning : List Record → Board → ℕ → Bool
-endsRunning rs b c = watched rs c && running b (linkTo rs c)
+endsRunning rs b c = links.endsRunning rs (b .done) c
 
 -- 26: at minute t the link that ends at c is within its x to y
 abbrev pub inTime : List Record → Board → ℕ → ℕ → Bool
-inTime rs b t c =
-    leb (minute b (linkTo rs c .a) + shortest (linkTo rs c)) t && leb t (minute b (linkTo rs c .a) + longest (linkTo rs c))
+inTime rs b t c = links.inTime rs (b .minutes) t c
 
 -- 27: the link l is not running, or ends in the set, or its y has not run out before minute t
 abbrev pub notLate : Board → ℕ → ℕ → Record → Bool
-notLate b t ended l = not (running b l) || (member ended (l .b) || leb t (minute b (l .a) + longest l))
+notLate b t ended l = history.notLate (b .done) (b .minutes) t ended l
 
 -- the numbers in order, 0 where the event is taken; windows are those of the board before the event
 unfoldable pub eventNumber : List Record → Board → List ℕ → ℕ

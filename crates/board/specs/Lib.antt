@@ -1,10 +1,8 @@
 -- What a reader has to believe of boards, in the order of document 01. No proofs are here.
 pub mod Boards
 pub mod Windows
-pub mod Replies
+pub mod Stuck
 pub mod Events
 pub mod Streams
-pub mod Verdicts
-pub mod Numbers
 pub mod Inside
 pub mod InsideReplies

@@ -1,69 +1,49 @@
 -- Document 01, "Board, windows, replies": the windows of a foreman's point q not yet done, from history: rs are the plan's
--- records, b the board. High and H can be below zero, so both are kept 100,000 up; where there is none, they are past
--- every minute. Assumes nothing.
-use mathlib.Core.Bool.{Bool, true, false, not, _&&_, _||_}
+-- records, b the board. What a record says of q by the clock, the done set and the minutes is said in `Rules` of `lowhigh`.
+-- High and H can be below zero, so both are kept 100,000 up; where there is none, they are past every minute. Assumes
+-- nothing.
+use mathlib.Core.Bool.{Bool, not, _||_}
 use mathlib.Core.List.{List, [], _∷_}
-use Prim.Native.Nat.{ℕ, _+_, _-_, _^_, min, max}
-use lib.Dec.{eqb, ltb}
+use Prim.Native.Nat.{ℕ, _+_, min}
+use lib.Dec.{ltb}
 use Rattle.points.specs.Sets.{from, every}
 use Rattle.plan.specs.Choice.{if_then_else_}
 use Rattle.plan.specs.Limits.{mostPoints, farthest}
-use Rattle.plan.specs.APlan.{ordinary, wait, is, some, points, watched, linkTo, gapOf}
-use Rattle.plan.specs.declared.Record.{Record}
-use Rattle.board.specs.Boards.{isDone, minute, running}
+use Rattle.records.specs.declared.Record.{Record}
+use Rattle.lowhigh.specs.Rules as lowhigh
+pub use Rattle.lowhigh.specs.Rules.{never}
+unfoldable pub use Rattle.lowhigh.specs.Rules.{greatest, least}
 use Rattle.board.specs.declared.Board.{Board}
 
 -- the record r keeps q shut: an ordinary one from q with negative d to a point not done, or a wait on q whose A is not
 -- done
 abbrev pub shuts : List Record → Board → ℕ → Record → Bool
-shuts rs b q r =
-    eqb (r .a) q
-    && ((is ordinary r && (ltb 0 (gapOf (r .first) .down) && not (isDone b (r .b))))
-    || (is wait r && not (isDone b (linkTo rs (r .b) .a))))
+shuts rs b q r = lowhigh.shuts rs (b .done) q r
 
 -- q is a foreman's point not yet done
 abbrev pub foremans : List Record → Board → ℕ → Bool
-foremans rs b q = ltb q (points rs) && (not (watched rs q) && not (isDone b q))
+foremans rs b q = lowhigh.foremans rs (b .done) q
 
 -- open: no record keeps it shut
 abbrev pub isOpen : List Record → Board → ℕ → Bool
-isOpen rs b q = foremans rs b q && not (some (shuts rs b q) rs)
+isOpen rs b q = lowhigh.isOpen rs (b .done) q
 
 -- the minute before which r keeps q: Y − d for a record from q to a done Y, A + w for a wait on q whose link is running,
 -- else 0
 abbrev pub earliest : List Record → Board → ℕ → Record → ℕ
-earliest rs b q r =
-    if eqb (r .a) q && (is ordinary r && isDone b (r .b)) then minute b (r .b) + gapOf (r .first) .down - gapOf (r .first) .up
-    else if eqb (r .a) q && (is wait r && running b (linkTo rs (r .b))) then minute b (linkTo rs (r .b) .a) + gapOf (r .first) .up
-    else 0
-
--- the largest of what the records give
-unfoldable pub greatest : (Record → ℕ) → List Record → ℕ
-greatest f [] = 0
-greatest f (r ∷ rs) = max (f r) (greatest f rs)
+earliest rs b q r = lowhigh.earliest rs (b .done) (b .minutes) q r
 
 -- Low: the largest of 0, the clock and what the records give
 abbrev pub low : List Record → Board → ℕ → ℕ
-low rs b q = max (b .clock) (greatest (earliest rs b q) rs)
-
--- past every minute
-abbrev pub never : ℕ
-never = 2 ^ 32 - 1
+low rs b q = lowhigh.low rs (b .clock) (b .done) (b .minutes) q
 
 -- the minute past which r does not let q come, 100,000 up: X + d for a record to q from a done X, negative d included
 abbrev pub bound : Board → ℕ → Record → ℕ
-bound b q r =
-    if eqb (r .b) q && (is ordinary r && isDone b (r .a)) then minute b (r .a) + farthest + gapOf (r .first) .up - gapOf (r .first) .down
-    else never
-
--- the least of what the records give
-unfoldable pub least : (Record → ℕ) → List Record → ℕ
-least f [] = never
-least f (r ∷ rs) = min (f r) (least f rs)
+bound b q r = lowhigh.bound (b .done) (b .minutes) q r
 
 -- High, 100,000 up
 abbrev pub high : List Record → Board → ℕ → ℕ
-high rs b q = least (bound b q) rs
+high rs b q = lowhigh.high rs (b .done) (b .minutes) q
 
 -- the least High of the open ones among some points
 unfoldable pub leastHigh : List Record → Board → List ℕ → ℕ

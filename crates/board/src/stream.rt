@@ -1,21 +1,22 @@
 // A stream of events: the plan and the board are tested once, and the events are taken one after the other. That the board
 // after an event is sound again is a theorem, so it is not tested again.
 ghost use mathlib.Core.Path.{_≡_};
-ghost use Prim.Native.Nat.{_*_, _+_, _≤_, _<_, min};
+ghost use Prim.Native.Nat.{_*_, _≤_};
 ghost use mathlib.Core.List.{_++_};
-ghost use lib.ListN.{length, drop, set};
-ghost use lib.Seq.{sets};
+ghost use lib.ListN.{length, drop};
 ghost use Rattle.plan.specs.Limits.{recordBytes};
-ghost use Rattle.board.specs.Streams.{eventsIn, said, saidNumbers, saidOf, boardAfterAll, takeAllOf, saidAllOf};
+ghost use Rattle.board.specs.Streams.{eventsIn, saidNumbers, saidOf, boardAfterAll, takeAllOf, saidAllOf};
 ghost use Rattle.board.specs.InsideReplies.{Ready};
 use crate::Board;
 use crate::Taken;
 use crate::UNSOUND;
-use crate::events::answer;
-use crate::events::take_next;
-use crate::links::Links;
-use crate::links::links_of;
+use crate::event::answer;
+use crate::event::take_next;
 use crate::sound::is_sound;
+use events::fewer;
+use events::put_three;
+use links::Links;
+use links::links_of;
 use plan::ACCEPTED;
 use plan::Plan;
 use plan::RECORD_BYTES;
@@ -23,23 +24,6 @@ use plan::check;
 
 // What is said of an event: its number, and the clock and the done set of the board handed back.
 pub const SAID: usize = 3;
-
-fn put(room: &mut [u32], at: usize, x: u32)
-    requires { ⌜ at < length (now room) ⌝ }
-    ensures { λ _. ⌜ now (room .exit) ≡ set (now (room .entry)) at x ⌝ }
-{
-    room[at] = x;
-}
-
-fn put_said(room: &mut [u32], at: usize, taken: Taken)
-    requires { ⌜ at + saidNumbers ≤ length (now room) ⌝ }
-    ensures { λ _. ⌜ now (room .exit) ≡ sets (now (room .entry)) at (said taken) ⌝ }
-{
-    let board = taken.board;
-    put(room, at, taken.number);
-    put(room, at + 1, board.clock);
-    put(room, at + 2, board.done);
-}
 
 // The first n events on a sound board of an accepted plan.
 fn take_each(
@@ -59,17 +43,11 @@ fn take_each(
     while i < n {
         let at = RECORD_BYTES * i;
         let taken = take_next(plan, now, links, &events[at..at + RECORD_BYTES]);
-        put_said(room, SAID * i, taken);
         now = taken.board;
+        put_three(room, SAID * i, taken.number, now.clock, now.done);
         i += 1;
     }
     now
-}
-
-fn fewer(a: usize, b: usize) -> usize
-    ensures { λ r. ⌜ r ≡ min a b ⌝ }
-{
-    if a < b { a } else { b }
 }
 
 impl Board {

@@ -7,10 +7,10 @@ use Rattle.plan.specs.APlan.{howMany, some, firstThat}
 use Rattle.plan.specs.ReplyNumbers.{checkOf, firstBad, numberFor, lastKind}
 use Rattle.board.specs.Boards.{sound, each, largest}
 use Rattle.board.specs.Windows.{greatest, least, leastHigh}
-use Rattle.board.specs.Replies.{replyOf, stateOf, outcomeOf}
+use Rattle.replies.specs.Replies.{replyOf, stateOf, outcomeOf}
 use Rattle.board.specs.Events.{takeOf, eventNumber, boardAfter, markAll}
 use Rattle.board.specs.Streams.{boardAfterAll}
-use Rattle.board.specs.Verdicts.{endedOf, verdictOf, firstBroken}
+use Rattle.verdict.specs.Verdicts.{endedOf, verdictOf, firstBroken}
 use Rattle.vee.specs.PlanTest.{spans, spread, projections, many}
 use Rattle.vee.specs.TestOf.{arcs, listed, atOnce, passes, firstFrom, judgeOf, testFrom, testOf}
 use Rattle.cases.specs.Starred.{table, Holds, leastWay}

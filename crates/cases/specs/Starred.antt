@@ -9,20 +9,20 @@ use Rattle.plan.specs.Choice.{if_then_else_}
 use Rattle.plan.specs.Limits.{mostPoints}
 use Rattle.plan.specs.APlan.{planOf, points, recordsOf}
 use Rattle.plan.specs.Haul.{haul, haulWith, aWait, circle}
-use Rattle.plan.specs.declared.Record.{Record}
+use Rattle.records.specs.declared.Record.{Record}
 use Rattle.plan.specs.declared.Plan.{Plan}
 use Rattle.board.specs.Boards.{fresh}
-use Rattle.board.specs.Replies.{replyOf, bare, shut}
+use Rattle.replies.specs.Replies.{replyOf, bare, shut}
 use Rattle.board.specs.Events.{takeOf, noPoint}
 use Rattle.board.specs.Streams.{boardAfterAll}
-use Rattle.board.specs.Verdicts.{verdictOf}
-use Rattle.board.specs.declared.State.{State}
-use Rattle.board.specs.declared.State.the-variants.{Done, Watched, Shut, Offered}
-use Rattle.board.specs.declared.Place.{Place}
-use Rattle.board.specs.declared.Outcome.the-variants.{Finished, Stuck, Offers}
-use Rattle.board.specs.declared.Reply.{Reply}
-use Rattle.board.specs.declared.Verdict.{Verdict}
-use Rattle.board.specs.declared.Verdict.the-variants.{Kept}
+use Rattle.verdict.specs.Verdicts.{verdictOf}
+use Rattle.replies.specs.declared.State.{State}
+use Rattle.replies.specs.declared.State.the-variants.{Done, Watched, Shut, Offered}
+use Rattle.replies.specs.declared.Place.{Place}
+use Rattle.replies.specs.declared.Outcome.the-variants.{Finished, Stuck, Offers}
+use Rattle.replies.specs.declared.Reply.{Reply}
+use Rattle.verdict.specs.declared.Verdict.{Verdict}
+use Rattle.verdict.specs.declared.Verdict.the-variants.{Kept}
 use Rattle.vee.specs.Tables.{bias, none}
 use Rattle.vee.specs.PlanTest.{spans, projections, unset}
 use Rattle.vee.specs.TestOf.{Arc, Rows, arcs, entry, better, distances, falling, rising, testOf}

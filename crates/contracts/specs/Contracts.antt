@@ -7,29 +7,30 @@ use Prim.Native.Nat.{ℕ}
 use lib.IntN.{ℤ}
 use lib.ListN.{take}
 use Rattle.points.specs.Sets.{member, withOf, withoutOf, countOf, firstOf, belowOf, subsetOf}
-use Rattle.plan.specs.APlan.{points, watched, endsAt, placeOf, gapOf, recordsOf}
+use Rattle.plan.specs.APlan.{points, links, watched, endsAt, placeOf, gapOf, recordsOf}
 use Rattle.plan.specs.ReplyNumbers.{readOf, checkOf, writeOf, writtenOf}
 use Rattle.plan.specs.declared.Plan.{Plan}
-use Rattle.plan.specs.declared.Gap.{Gap}
+use Rattle.numbers.specs.declared.Gap.{Gap}
 use Rattle.plan.specs.declared.Found.{Found}
 use Rattle.plan.specs.declared.Reading.{Reading}
 use Rattle.plan.specs.declared.Refusal.{Refusal}
 use Rattle.bounds.specs.Bounds.{boundKept, bothIn}
 use Rattle.bounds.specs.declared.Bound.{Bound}
-use Rattle.board.specs.Boards.{fresh, minute}
-use Rattle.board.specs.Replies.{replyOf}
+use Rattle.board.specs.Boards.{fresh, minute, sound}
+use Rattle.board.specs.Stuck.{finished}
+use Rattle.replies.specs.Replies.{replyOf}
 use Rattle.board.specs.Events.{takeOf}
 use Rattle.board.specs.Streams.{takeAllOf, saidAllOf}
-use Rattle.board.specs.Verdicts.{endedOf, verdictOf}
+use Rattle.verdict.specs.Verdicts.{endedOf, verdictOf}
 use Rattle.board.specs.declared.Board.{Board}
-use Rattle.board.specs.declared.Reply.{Reply}
+use Rattle.replies.specs.declared.Reply.{Reply}
 use Rattle.board.specs.declared.Taken.{Taken}
-use Rattle.board.specs.declared.Verdict.{Verdict}
+use Rattle.verdict.specs.declared.Verdict.{Verdict}
 use Rattle.lent.specs.Judgement.{judgeOf}
 use Rattle.lent.specs.declared.Judged.{Judged}
 use Rattle.vee.specs.PlanTest.{Tested}
 use Rattle.vee.specs.declared.Answer.{Answer}
-use Rattle.board.specs.declared.Place.{Place}
+use Rattle.replies.specs.declared.Place.{Place}
 use Rattle.text.specs.Text.{lineOf}
 use Rattle.text.specs.Lines.{planLine, numbersLine, eventLine, replyLine, testLine, boardLine, pointLine, tailLine, endLine}
 use Rattle.text.specs.declared.Line.{Line}
@@ -57,6 +58,7 @@ pub record SingleReplies : Type 0 where
   pub write : (p : Plan) (out : List ℕ) → SingleBoth (λ (r : Refusal). r ≡ writeOf p out) (λ (held : List ℕ). held ≡ writtenOf p out)
   pub split : (d : ℤ) → Single (λ (r : Gap). r ≡ gapOf d)
   pub points-of : (p : Plan) → Single (λ (r : ℕ). r ≡ points (recordsOf p))
+  pub links-of : (p : Plan) → Single (λ (r : ℕ). r ≡ links (recordsOf p))
   pub link-to : (p : Plan) (q : ℕ) → Single (λ (r : Found). r ≡ placeOf (endsAt q) (recordsOf p))
   pub is-watched : (p : Plan) (q : ℕ) → Single (λ (r : Bool). r ≡ watched (recordsOf p) q)
   -- bounds
@@ -68,6 +70,8 @@ pub record SingleReplies : Type 0 where
   pub take-event : (p : Plan) (b : Board) (event : List ℕ) → Single (λ (r : Taken). r ≡ takeOf p b event)
   pub take-all : (p : Plan) (b : Board) (events room : List ℕ)
       → SingleBoth (λ (r : Taken). r ≡ takeAllOf p b events room) (λ (held : List ℕ). held ≡ saidAllOf p b events room)
+  pub is-sound : (p : Plan) (b : Board) → Single (λ (r : Bool). r ≡ sound (recordsOf p) b)
+  pub is-finished : (p : Plan) (b : Board) → Single (λ (r : Bool). r ≡ finished (recordsOf p) b)
   pub minute-of : (b : Board) (q : ℕ) → Single (λ (r : ℕ). r ≡ minute b q)
   pub ended : (p : Plan) (b : Board) → Single (λ (r : Refusal). r ≡ endedOf p b)
   pub verdict-of : (p : Plan) (b : Board) → Single (λ (r : Verdict). r ≡ verdictOf p b)

@@ -13,7 +13,7 @@ use Rattle.plan.specs.Choice.{if_then_else_}
 use Rattle.plan.specs.APlan.{points, recordsOf}
 use Rattle.plan.specs.declared.Plan.{Plan}
 use Rattle.bounds.specs.declared.Bound.{Bound}
-use Rattle.board.specs.Verdicts.{endedOf}
+use Rattle.verdict.specs.Verdicts.{endedOf}
 use Rattle.board.specs.declared.Board.{Board}
 use Rattle.lent.specs.Judgement.{namedIn, keptOn, firstNot, listed, judgeOf}
 use Rattle.lent.specs.Inside.{begunOf, goesOn, judgedAfter, goneThrough}

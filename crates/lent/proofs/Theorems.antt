@@ -11,14 +11,14 @@ use borrow.Author.Tests.{eqb-true, ne-eqb, lt-ltb}
 use Rattle.plan.specs.Choice.{if_then_else_}
 use Rattle.plan.specs.APlan.{ordinary, wait, is, blank, points, howMany, one, linkTo, recordsOf}
 use Rattle.plan.specs.declared.Plan.{Plan}
-use Rattle.plan.specs.declared.Record.{Record}
+use Rattle.records.specs.declared.Record.{Record}
 use Rattle.plan.proofs.Accepted.{Accepted, accepted-plan}
 use Rattle.bounds.specs.declared.Bound.{Bound}
-use Rattle.board.specs.Verdicts.{ordinaryKept, waitKept, firstBroken, endedOf, verdictOf}
+use Rattle.verdict.specs.Verdicts.{ordinaryKept, waitKept, firstBroken, endedOf, verdictOf}
 use Rattle.board.specs.declared.Board.{Board}
-use Rattle.board.specs.declared.Verdict.{Verdict}
-use Rattle.board.specs.declared.Verdict.the-variants as verdict
-use Rattle.board.proofs.Broken.{ended-accepted}
+use Rattle.verdict.specs.declared.Verdict.{Verdict}
+use Rattle.verdict.specs.declared.Verdict.the-variants as verdict
+use Rattle.verdict.proofs.Broken.{ended-accepted}
 use Rattle.lent.specs.Judgement.{namedIn, keptOn, firstNot, judgeOf, numberIn, ordinaries}
 use Rattle.lent.specs.declared.Judged.{Judged}
 use Rattle.lent.specs.declared.Judged.the-variants.{Refused, Kept, Broken}

@@ -7,7 +7,7 @@ use Rattle.plan.specs.Choice.{if_then_else_}
 use Rattle.plan.specs.APlan.{points, recordsOf}
 use Rattle.plan.specs.declared.Plan.{Plan}
 use Rattle.bounds.specs.declared.Bound.{Bound}
-use Rattle.board.specs.Verdicts.{endedOf}
+use Rattle.verdict.specs.Verdicts.{endedOf}
 use Rattle.board.specs.declared.Board.{Board}
 use Rattle.lent.specs.Judgement.{namedIn, keptOn}
 use Rattle.lent.specs.declared.Judged.{Judged}

@@ -5,12 +5,12 @@ use Prim.Native.Nat.{ℕ, suc}
 use lib.Dec.{eqb}
 use Rattle.plan.specs.Choice.{if_then_else_}
 use Rattle.plan.specs.APlan.{ordinary, is, points, recordsOf}
-use Rattle.plan.specs.declared.Record.{Record}
+use Rattle.records.specs.declared.Record.{Record}
 use Rattle.plan.specs.declared.Plan.{Plan}
 use Rattle.bounds.specs.Bounds.{boundKept, bothIn}
 use Rattle.bounds.specs.declared.Bound.{Bound}
 use Rattle.board.specs.Boards.{minute}
-use Rattle.board.specs.Verdicts.{endedOf}
+use Rattle.verdict.specs.Verdicts.{endedOf}
 use Rattle.board.specs.declared.Board.{Board}
 use Rattle.lent.specs.declared.Judged.{Judged}
 use Rattle.lent.specs.declared.Judged.the-variants.{Refused, Kept, Broken}

@@ -8,7 +8,6 @@ ghost use lib.ListN.{take};
 ghost use Rattle.lent.specs.Judgement.{judgeOf};
 ghost use Rattle.lent.specs.Inside.{begunOf, goesOn, answerAfter, judgedAfter, listRoom};
 use board::Board;
-use board::ended;
 use board::minute_of;
 pub use bounds::Bound;
 use bounds::both_in;
@@ -17,6 +16,7 @@ use plan::ACCEPTED;
 use plan::NOT_NAMED;
 use plan::Plan;
 use plan::points_of;
+use verdict::ended;
 
 // How many bounds a list by value has room for.
 pub const LIST_ROOM: usize = 4096;

@@ -14,16 +14,16 @@ use borrow.Author.Tests.{ltb-true, leb-true, eqb-true, eqb-false, eq-eqb, ne-eqb
 use native.Mathlib.Decide.{decLt}
 use Rattle.plan.specs.Choice.{if_then_else_}
 use Rattle.plan.specs.Limits.{mostPoints, mostRecords, farthest}
-use Rattle.plan.specs.APlan.{Kind, point, link, ordinary, wait, unknown, kindOf, byteOf, is, one, howMany, some, points, starts, watched, startsAt, endsAt, firstThat, linkTo, blank, gapOf, recordsOf}
+use Rattle.plan.specs.APlan.{Kind, point, link, ordinary, wait, unknown, kindOf, byteOf, is, one, howMany, some, points, starts, watched, startsAt, endsAt, fromTo, firstThat, linkTo, blank, gapOf, recordsOf}
 use Rattle.plan.specs.ReplyNumbers.{after, isKnown, lastKind, numberOf, firstBad, refusal, checkOf}
 use Rattle.plan.specs.Held.{plain}
-use Rattle.plan.specs.declared.Record.{Record}
+use Rattle.records.specs.declared.Record.{Record}
 use Rattle.plan.specs.declared.Plan.{Plan}
 use Rattle.plan.specs.declared.Refusal.{Refusal}
-use Rattle.plan.proofs.Passed.{Passed, passed}
+use Rattle.rules.proofs.Passed.{Passed, passed}
 use Rattle.plan.proofs.Entries as Entries
-use Rattle.plan.proofs.Records.{last-snoc, many-snoc, some-snoc, first-not, first-so}
-use Rattle.plan.proofs.Shows.{both, kind-byte}
+use Rattle.plan.proofs.Records.{last-snoc, many-snoc, some-snoc, first-not, first-old, first-so}
+use Rattle.rules.proofs.Shows.{both, kind-byte}
 
 -- what the record r, one of rs, keeps
 pub record Rules (rs : List Record) (r : Record) : Type 0 where
@@ -41,9 +41,18 @@ pub record Rules (rs : List Record) (r : Record) : Type 0 where
   pub wait-other : is wait r ≡ true → r .a ≡ linkTo rs (r .b) .a → ⊥
   pub wait-bounds : is wait r ≡ true → (1 ≤ gapOf (r .first) .up) × (gapOf (r .first) .up ≤ gapOf (linkTo rs (r .b) .second) .up)
 
+-- two ordinary records from the same point to the same point
+pub record Twins (x y : Record) : Type 0 where
+  pub one : is ordinary x ≡ true
+  pub other : is ordinary y ≡ true
+  pub from : x .a ≡ y .a
+  pub to : x .b ≡ y .b
+
 pub record Accepted (rs : List Record) : Type 0 where
   pub few : points rs ≤ mostPoints
   pub each : (i : ℕ) → i < length rs → Rules rs (getD rs i blank)
+  -- no two ordinary records have the same two points, in the same order
+  pub no-twins : (i j : ℕ) → i < length rs → j < length rs → Twins (getD rs i blank) (getD rs j blank) → i ≡ j
   -- a watched point has its link among the records
   pub ends : (c : ℕ) → watched rs c ≡ true → (is link (linkTo rs c) ≡ true) × (linkTo rs c .b ≡ c) × ((i : ℕ) × (i < length rs) × (getD rs i blank ≡ linkTo rs c))
 
@@ -76,17 +85,6 @@ first-found so (r ∷ rs) e = go (so r) refl e (first-found so rs)
     go true t e f = (t, (0, omega arith, refl))
     go false t e f = let g = f e in (g .0, (suc (g .1 .0), omega (arith, g .1 .1), g .1 .2))
 
--- Where some record is so, one more record changes nothing for the first that is.
-first-had : (so : Record → Bool) (rs : List Record) (r : Record) → some so rs ≡ true → firstThat so (rs ++ (r ∷ [])) ≡ firstThat so rs
-unfolding some firstThat
-first-had so [] r e = clash (sym e)
-first-had so (x ∷ rs) r e = go (so x) e (first-had so rs r)
-  where
-    go : (b : Bool) → (b || some so rs) ≡ true → (some so rs ≡ true → firstThat so (rs ++ (r ∷ [])) ≡ firstThat so rs)
-        → (if b then x else firstThat so (rs ++ (r ∷ []))) ≡ (if b then x else firstThat so rs)
-    go true e f = refl
-    go false e f = f e
-
 -- A record of one kind is of no other.
 pub not-a : (r : Record) (j k : Kind) → (byteOf j ≡ byteOf k → ⊥) → is j r ≡ true → is k r ≡ false
 not-a r j k n e = ne-eqb (r .kind) (byteOf k) (λ f. n (sym (eqb-true (r .kind) (byteOf j) e) ∙ f))
@@ -115,6 +113,7 @@ lt-up (negsuc m) y h e = absurd (omega arith)
 record Kept (rs : List Record) : Type 0 where
   few : points rs ≤ mostPoints
   each : (i : ℕ) → i < length rs → Rules rs (getD rs i blank)
+  twins : (i j : ℕ) → i < length rs → j < length rs → Twins (getD rs i blank) (getD rs j blank) → i ≡ j
   -- kinds never fall
   order : (i : ℕ) → i < length rs → getD rs i blank .kind ≤ lastKind 0 rs
 
@@ -175,7 +174,7 @@ module _ (rs : List Record) (r : Record) (ok : numberOf (after rs) r 0 ≡ 0) wh
           names = λ e. omega (arith, w .names e, points-more);
           differ = w .differ;
           link-bounds = w .link-bounds;
-          link-alone = λ e. first-had (endsAt (x .b)) rs r (getD-some (endsAt (x .b)) rs i h (rw (at, e) (eq-eqb (x .b) (x .b) refl))) ∙ w .link-alone e;
+          link-alone = λ e. first-old (endsAt (x .b)) rs r (getD-some (endsAt (x .b)) rs i h (rw (at, e) (eq-eqb (x .b) (x .b) refl))) ∙ w .link-alone e;
           link-free = λ e. rw (some-snoc (endsAt (x .a)) rs r) (free-more e (endsAt (x .a) r) refl);
           ordinary-bounds = w .ordinary-bounds;
           wait-watched = λ e. same-watched (no-link e) (x .b) ∙ w .wait-watched e;
@@ -239,11 +238,32 @@ module _ (rs : List Record) (r : Record) (ok : numberOf (after rs) r 0 ≡ 0) wh
         let e : i ≡ length rs = omega (arith, length-append rs (r ∷ [])) in
         rw (e, getD-append-seam rs r [] blank) (new, omega arith)
 
+    -- an earlier record is no twin of the new one
+    no-twin : (i : ℕ) → i < length rs → Twins (getD rs i blank) r → ⊥
+    no-twin i l t =
+        let s = getD-some (fromTo (r .a) (r .b)) rs i l (rw (t .one) (rw (eq-eqb _ _ (sym (t .from)), eq-eqb _ _ (sym (t .to))))) in
+        clash (sym s ∙ not-true _ (of ordinary (t .other) refl .single))
+
+    turned : {x y : Record} → Twins x y → Twins y x
+    turned t = record { one = t .other; other = t .one; from = sym (t .from); to = sym (t .to) }
+
+    twins-more : (i j : ℕ) → i < length more → j < length more → Twins (getD more i blank) (getD more j blank) → Dec (i < length rs) → Dec (j < length rs) → i ≡ j
+    twins-more i j h k t (yes l) (yes m) =
+        w .twins i j l m (rw (List·getD-append rs (r ∷ []) blank i l, List·getD-append rs (r ∷ []) blank j m) at t)
+    twins-more i j h k t (yes l) (no m) =
+        let e : j ≡ length rs = omega (arith, length-append rs (r ∷ [])) in
+        absurd (no-twin i l (rw (List·getD-append rs (r ∷ []) blank i l, e, getD-append-seam rs r [] blank) at t))
+    twins-more i j h k t (no l) (yes m) =
+        let e : i ≡ length rs = omega (arith, length-append rs (r ∷ [])) in
+        absurd (no-twin j m (turned (rw (List·getD-append rs (r ∷ []) blank j m, e, getD-append-seam rs r [] blank) at t)))
+    twins-more i j h k t (no l) (no m) = omega (arith, length-append rs (r ∷ []))
+
     kept-more : Kept more
     kept-more =
         record {
           few = rw points-more (few-more (w .few) (is point r) refl);
           each = λ i h. each-more i h (decLt i (length rs)) .0;
+          twins = λ i j h k t. twins-more i j h k t (decLt i (length rs)) (decLt j (length rs));
           order = λ i h. rw (last-snoc 0 rs r) (each-more i h (decLt i (length rs)) .1);
         }
 
@@ -251,7 +271,7 @@ module _ (rs : List Record) (r : Record) (ok : numberOf (after rs) r 0 ≡ 0) wh
 
 kept-none : Kept []
 unfolding howMany
-kept-none = record { few = omega arith; each = λ i h. absurd (omega arith); order = λ i h. absurd (omega arith) }
+kept-none = record { few = omega arith; each = λ i h. absurd (omega arith); twins = λ i j h k t. absurd (omega arith); order = λ i h. absurd (omega arith) }
 
 kept-all : (rs xs : List Record) → Kept rs → firstBad rs (map plain xs) .number ≡ 0 → Kept (rs ++ xs)
 unfolding firstBad
@@ -273,6 +293,7 @@ accepted-plan p e =
     record {
       few = w .few;
       each = w .each;
+      no-twins = w .twins;
       ends = λ c h.
           let f = first-found (endsAt c) (recordsOf p) h in
           let g = both (is link (linkTo (recordsOf p) c)) _ (f .0) in

@@ -11,8 +11,8 @@ use lib.Seq.{take-suc, drop-cons, take-all}
 use Rattle.plan.specs.Choice.{if_then_else_}
 use Rattle.plan.specs.APlan.{blank, one, howMany, some, placeFrom}
 use Rattle.plan.proofs.Records.{many-snoc}
-use Rattle.plan.proofs.Sofar.{many-le}
-use Rattle.plan.specs.declared.Record.{Record}
+use Rattle.records.proofs.Records.{many-le}
+use Rattle.records.specs.declared.Record.{Record}
 use Rattle.plan.specs.declared.Found.{Found}
 use Rattle.plan.specs.declared.Found.the-variants.{At, Nothing}
 

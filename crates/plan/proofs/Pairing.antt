@@ -3,15 +3,16 @@ use mathlib.Core.Path.{_≡_, refl, ap, _∙_}
 use mathlib.Core.List.{List, [], _∷_, _++_, map}
 use Prim.Native.Nat.{ℕ, zero, suc, _≤_, _<_}
 use native.Mathlib.Omega.{arith}
-use lib.ListN.{length, getD, replicate}
+use lib.ListN.{length, getD, replicate, length-map}
 use lib.Seq.{length-take-le, getD-take}
 use Rattle.plan.specs.Limits.{mostRecords}
-use Rattle.plan.specs.APlan.{blank, recordsOf}
+use Rattle.plan.specs.APlan.{blank, recordsOf, planOf}
 use Rattle.plan.specs.PlanFile.{Entry}
 use Rattle.plan.specs.Held.{plain}
-use Rattle.plan.specs.Inside.{paired, entriesOf, decodedOf}
+use Rattle.plan.specs.Inside.{paired, entriesOf}
+use Rattle.records.specs.Inside.{decodedOf}
 use Rattle.plan.proofs.RoundTrip.{records-of-plan}
-use Rattle.plan.specs.declared.Record.{Record}
+use Rattle.records.specs.declared.Record.{Record}
 use Rattle.plan.specs.declared.Plan.{Plan}
 
 pub length-paired : (rs : List Record) (zs : List ℕ) → length rs ≤ length zs → length (paired rs zs) ≡ length rs
@@ -52,5 +53,12 @@ unfolding paired
 paired-back [] more = refl
 paired-back (e ∷ es) more = ap (λ (rest : List Entry). e ∷ rest) (paired-back es more)
 
-pub decoded-back : (es : List Entry) → entriesOf (decodedOf es .plan) (decodedOf es .reserved) ≡ es
-decoded-back es = rw (records-of-plan (map (λ (e : Entry). e .what) es)) (paired-back es _)
+module _ (es : List Entry) (n : ℕ) (all : length es ≡ n) where
+  -- the plan that decoded entries make
+  pub decoded-plan : _≡_ {A = Plan} (record { count = n; records = decodedOf es .records }) (planOf (map (λ (e : Entry). e .what) es))
+  decoded-plan = rw (length-map es (λ (e : Entry). e .what), all)
+
+  pub decoded-back : entriesOf (record { count = n; records = decodedOf es .records }) (decodedOf es .reserved) ≡ es
+  decoded-back =
+      ap (λ (p : Plan). entriesOf p (decodedOf es .reserved)) decoded-plan
+      ∙ rw (records-of-plan (map (λ (e : Entry). e .what) es)) (paired-back es _)

@@ -17,7 +17,7 @@ use Rattle.plan.specs.APlan.{recordsOf, planOf}
 use Rattle.plan.specs.PlanFile.{Entry, entriesIn, fileOf}
 use Rattle.plan.specs.ReplyNumbers.{refusal, accepted, firstBad, refused, taken, readEntries, readOf, checkOf, writeOf, writtenOf}
 use Rattle.plan.specs.Held.{All, IsByte, Held, HeldPlan, plain, refusalIn, HasFile}
-use Rattle.plan.specs.declared.Record.{Record}
+use Rattle.records.specs.declared.Record.{Record}
 use Rattle.plan.specs.declared.Plan.{Plan}
 use Rattle.plan.specs.declared.Reading.{Reading}
 use Rattle.plan.specs.declared.Refusal.{Refusal}

@@ -12,16 +12,17 @@ use lib.Seq.{take-suc, drop-cons, length-take-le}
 use borrow.Author.Tests.{eqb-true}
 use Rattle.plan.specs.Choice.{if_then_else_}
 use Rattle.plan.specs.Limits.{mostPoints, mostRecords}
-use Rattle.plan.specs.APlan.{point, link, ordinary, wait, is, howMany, one, blank}
+use Rattle.plan.specs.APlan.{point, link, ordinary, wait, is, blank}
 use Rattle.plan.specs.PlanFile.{Entry}
 use Rattle.plan.specs.ReplyNumbers.{after, numberOf, firstBad, refusal, accepted}
 use Rattle.plan.specs.Held.{plain}
-use Rattle.plan.specs.Inside.{Few, fresh, told, noEnding, withRecord, endingAfter, oneOf}
-use Rattle.plan.proofs.Shows.{Shows, shows-none, same-number, shows-more}
-use Rattle.plan.specs.declared.Record.{Record}
-use Rattle.plan.specs.declared.rules.Seen.{Seen}
-use Rattle.plan.specs.declared.rules.Ending.{Ending}
-use Rattle.plan.specs.declared.rules.One.the-variants.{Good, Bad}
+use Rattle.rules.specs.Inside.{Few, fresh, told, noEnding, withRecord, endingAfter, secondsAfter, oneOf}
+use Rattle.records.proofs.Records.{many-le}
+use Rattle.rules.proofs.Shows.{Shows, shows-none, same-number, shows-more}
+use Rattle.records.specs.declared.Record.{Record}
+use Rattle.rules.specs.declared.Seen.{Seen}
+use Rattle.rules.specs.declared.Ending.{Ending}
+use Rattle.rules.specs.declared.One.the-variants.{Good, Bad}
 
 abbrev pub whats : List Entry → List Record
 whats es = map (λ (e : Entry). e .what) es
@@ -48,23 +49,14 @@ said-good : (n : ℕ) (t u : Seen) (b : Bool) → eqb n 0 ≡ b → (if b then G
 said-good n t u true q e = (q, cc)
 said-good n t u false q e = absurd (let z : _≡_ {A = ℕ} 0 1 = cc in omega arith)
 
-pub record Sofar (es : List Entry) (i : ℕ) (s : Seen) (ends : List Ending) : Type 0 where
-  pub shows : Shows (whats (take i es)) s ends
+pub record Sofar (es : List Entry) (i : ℕ) (s : Seen) (ends : List Ending) (seconds : List ℕ) : Type 0 where
+  pub shows : Shows (whats (take i es)) s ends seconds
   pub rest : firstBad (whats (take i es)) (drop i es) ≡ firstBad [] es
 
-pub sofar-start : (es : List Entry) → Sofar es 0 fresh (replicate mostPoints noEnding)
+pub sofar-start : (es : List Entry) → Sofar es 0 fresh (replicate mostPoints noEnding) (replicate mostPoints 0)
 sofar-start es = record { shows = shows-none; rest = refl }
 
-one-le : (b : Bool) → one b ≤ 1
-one-le true = omega arith
-one-le false = omega arith
-
-pub many-le : (so : Record → Bool) (rs : List Record) → howMany so rs ≤ length rs
-unfolding howMany
-many-le so [] = omega arith
-many-le so (r ∷ rs) = omega (arith, many-le so rs, one-le (so r))
-
-module _ (es : List Entry) (i : ℕ) (s : Seen) (ends : List Ending) (f : Sofar es i s ends) where
+module _ (es : List Entry) (i : ℕ) (s : Seen) (ends : List Ending) (seconds : List ℕ) (f : Sofar es i s ends seconds) where
   -- no count is past the records looked at
   pub sofar-few : i ≤ length es → length es ≤ mostRecords → Few s
   sofar-few h m =
@@ -90,17 +82,20 @@ module _ (es : List Entry) (i : ℕ) (s : Seen) (ends : List Ending) (f : Sofar 
     abbrev end : Ending
     end = getD ends (next .what .b % mostPoints) noEnding
 
+    abbrev led : ℕ
+    led = getD seconds (next .what .a % mostPoints) 0
+
     abbrev kept-number : ℕ
-    kept-number = numberOf (told s end) (next .what) (next .reserved)
+    kept-number = numberOf (told s end led) (next .what) (next .reserved)
 
     number-here : kept-number ≡ numberOf (after before) (next .what) (next .reserved)
-    number-here = same-number before s ends (f .shows) (next .what) (next .reserved)
+    number-here = same-number before s ends seconds (f .shows) (next .what) (next .reserved)
 
     rest-here : firstBad before (next ∷ drop (suc i) es) ≡ firstBad [] es
     rest-here = rw (drop-cons es i (plain blank) h, here) at (f .rest)
 
     -- a bad record is the first
-    pub sofar-bad : (k : ℕ) → oneOf s end (next .what) (next .reserved) ≡ Bad k → refusal k i ≡ firstBad [] es
+    pub sofar-bad : (k : ℕ) → oneOf s end led (next .what) (next .reserved) ≡ Bad k → refusal k i ≡ firstBad [] es
     unfolding oneOf
     sofar-bad k e =
         let b = said-bad kept-number k (withRecord s (next .what)) (eqb kept-number 0) refl e in
@@ -108,7 +103,7 @@ module _ (es : List Entry) (i : ℕ) (s : Seen) (ends : List Ending) (f : Sofar 
         rw (← rest-here, bad-here before next (drop (suc i) es) (rw number-here at (b .0)), ← number-here, b .1, n)
 
     -- with a record that is not bad it goes on
-    pub sofar-good : (t : Seen) → oneOf s end (next .what) (next .reserved) ≡ Good t → Sofar es (i + 1) t (set ends (next .what .b % mostPoints) (endingAfter (next .what) end))
+    pub sofar-good : (t : Seen) → oneOf s end led (next .what) (next .reserved) ≡ Good t → Sofar es (i + 1) t (set ends (next .what .b % mostPoints) (endingAfter (next .what) end)) (set seconds (next .what .a % mostPoints) (secondsAfter (next .what) led))
     unfolding oneOf
     sofar-good t e =
         let b = said-good kept-number (withRecord s (next .what)) t (eqb kept-number 0) refl e in
@@ -116,6 +111,6 @@ module _ (es : List Entry) (i : ℕ) (s : Seen) (ends : List Ending) (f : Sofar 
         let w : whats (take (i + 1) es) ≡ before ++ (next .what ∷ []) = rw (add-one i, take-suc es i (plain blank) h, here) (map-append (λ (e : Entry). e .what) (take i es) (next ∷ [])) in
         rw (← (b .1))
         (record {
-          shows = rw w (shows-more before s ends (f .shows) (next .what) (next .reserved) (eqb-true _ 0 good));
+          shows = rw w (shows-more before s ends seconds (f .shows) (next .what) (next .reserved) (eqb-true _ 0 good));
           rest = rw (w, add-one i) (rw (good-here before next (drop (suc i) es) good) at rest-here);
         })

@@ -1,101 +1,20 @@
--- Document 01, "A plan": the four kinds of record, what the records of a plan say of its points, and the plan that some
--- records make. A plan is the list of its records in file order, and unused room counts for nothing. Assumes nothing.
-use mathlib.Core.Bool.{Bool, true, false, _&&_, _||_}
+-- Document 01, "A plan": the records of a plan, and the plan that some records make. A plan is the list of its records in file
+-- order, and unused room counts for nothing. What some records say of the points is handed on from `records`, and what a
+-- signed number adds and takes away from `numbers`. Assumes nothing.
+use mathlib.Core.Bool.{Bool}
 use mathlib.Core.List.{List, [], _∷_, _++_}
-use Prim.Native.Nat.{ℕ, zero, suc, _+_, _-_}
-use lib.Dec.{eqb}
-use lib.IntN.{ℤ, pos, negsuc}
+use Prim.Native.Nat.{ℕ, suc, _-_}
 use lib.ListN.{length, take, replicate}
+use Rattle.records.specs.declared.Record.{Record}
 use Rattle.plan.specs.Choice.{if_then_else_}
-use Rattle.plan.specs.Limits.{mostPoints, mostLinks, mostOrdinary, mostWaits, mostRecords}
-use Rattle.plan.specs.declared.Record.{Record}
+use Rattle.plan.specs.Limits.{mostRecords}
 use Rattle.plan.specs.declared.Plan.{Plan}
-use Rattle.plan.specs.declared.Gap.{Gap}
 use Rattle.plan.specs.declared.Found.{Found}
 use Rattle.plan.specs.declared.Found.the-variants.{At, Nothing}
-
-pub data Kind : Type 0 where
-  point : Kind
-  link : Kind
-  ordinary : Kind
-  wait : Kind
-  unknown : Kind
-
--- the kind that a record's first byte names
-abbrev pub kindOf : ℕ → Kind
-kindOf k =
-    if eqb k 1 then point
-    else if eqb k 2 then link
-    else if eqb k 3 then ordinary
-    else if eqb k 4 then wait
-    else unknown
-
--- how many records of a kind a plan may have
-abbrev pub most : Kind → ℕ
-most point = mostPoints
-most link = mostLinks
-most ordinary = mostOrdinary
-most wait = mostWaits
-most unknown = 0
-
--- the byte that names a kind
-abbrev pub byteOf : Kind → ℕ
-byteOf point = 1
-byteOf link = 2
-byteOf ordinary = 3
-byteOf wait = 4
-byteOf unknown = 0
-
--- r is of the kind
-abbrev pub is : Kind → Record → Bool
-is k r = eqb (r .kind) (byteOf k)
-
--- r is a link that starts at p
-abbrev pub startsAt : ℕ → Record → Bool
-startsAt p r = is link r && eqb p (r .a)
-
--- r is a link that ends at p
-abbrev pub endsAt : ℕ → Record → Bool
-endsAt p r = is link r && eqb p (r .b)
-
-abbrev pub one : Bool → ℕ
-one true = 1
-one false = 0
-
--- how many of the records are so
-unfoldable pub howMany : (Record → Bool) → List Record → ℕ
-howMany so [] = 0
-howMany so (r ∷ rs) = one (so r) + howMany so rs
-
--- whether one of the records is so
-unfoldable pub some : (Record → Bool) → List Record → Bool
-some so [] = false
-some so (r ∷ rs) = so r || some so rs
-
--- the points are numbered from 0, so their count is the next number
-abbrev pub points : List Record → ℕ
-points rs = howMany (is point) rs
-
--- p starts a link
-abbrev pub starts : List Record → ℕ → Bool
-starts rs p = some (startsAt p) rs
-
--- p ends a link: it is only watched
-abbrev pub watched : List Record → ℕ → Bool
-watched rs p = some (endsAt p) rs
-
--- a record of zeros, as unused room holds
-abbrev pub blank : Record
-blank = record { kind = 0; a = 0; b = 0; first = pos 0; second = pos 0; code = 0 }
-
--- the first of the records that is so, and `blank` where none is
-unfoldable pub firstThat : (Record → Bool) → List Record → Record
-firstThat so [] = blank
-firstThat so (r ∷ rs) = if so r then r else firstThat so rs
-
--- the link that ends at p
-abbrev pub linkTo : List Record → ℕ → Record
-linkTo rs p = firstThat (endsAt p) rs
+pub use Rattle.numbers.specs.Numbers.{gapOf}
+pub use Rattle.records.specs.Records.{Kind, point, link, ordinary, wait, unknown, kindOf, most, byteOf, is, startsAt, endsAt, fromTo, one}
+pub use Rattle.records.specs.Records.{points, links, starts, watched, leads, blank, linkTo}
+unfoldable pub use Rattle.records.specs.Records.{howMany, some, firstThat}
 
 -- the place of the first of the records that is so, if one is; i is the place of the first of all
 unfoldable pub placeFrom : ℕ → (Record → Bool) → List Record → Found
@@ -104,11 +23,6 @@ placeFrom i so (r ∷ rs) = if so r then At i else placeFrom (suc i) so rs
 
 abbrev pub placeOf : (Record → Bool) → List Record → Found
 placeOf so rs = placeFrom 0 so rs
-
--- a signed number as what it adds and what it takes away: one of the two is 0
-abbrev pub gapOf : ℤ → Gap
-gapOf (pos n) = record { up = n; down = 0 }
-gapOf (negsuc n) = record { up = 0; down = n + 1 }
 
 -- the records of a plan: as many as its count says, as far as it has room
 abbrev pub recordsOf : Plan → List Record

@@ -1,94 +1,61 @@
-// Plans: their records, the reader and the writer of plan files, the check of a plan by value, and what later crates
-// look up in a plan. Document 01, "A plan", "Plan file" and "Reply numbers" 1 to 12; specs/ states them in that order.
-// Every open function takes any bytes and any plan and answers; none asks anything of its caller.
+// Plans: the reader and the writer of plan files, the check of a plan by value, and what later crates look up in a plan.
+// Document 01, "A plan", "Plan file" and "Reply numbers" 1 to 12; specs/ states them in that order. Records, the rules for one
+// record and signed numbers come from the rooms below, `records`, `rules` and `numbers`, and what callers need of them is
+// handed on here. Every open function takes any bytes and any plan and answers; none asks anything of its caller.
 ghost use mathlib.Core.Path.{_≡_};
-ghost use mathlib.Core.List.{[], _++_};
-ghost use Prim.Native.Nat.{_*_, _≤_, min};
-ghost use lib.ListN.{length, drop};
-ghost use Rattle.plan.specs.Limits.{mostRecords, recordBytes};
-ghost use Rattle.plan.specs.APlan.{planOf, recordsOf, points, endsAt, watched, placeOf, gapOf};
-ghost use Rattle.plan.specs.Inside.{decodedOf, entriesOf};
-ghost use Rattle.plan.specs.PlanFile.{entriesIn, fileOf};
+ghost use mathlib.Core.List.{[]};
+ghost use Prim.Native.Nat.{_≤_, min};
+ghost use Rattle.plan.specs.Limits.{mostRecords};
+ghost use Rattle.plan.specs.APlan.{planOf, recordsOf, howMany, points, links, endsAt, watched, placeOf};
+ghost use Rattle.plan.specs.Inside.{entriesOf, ofByte};
 ghost use Rattle.plan.specs.ReplyNumbers.{firstBad, readOf, checkOf, writeOf, writtenOf, refusal, refused};
-
-mod file;
-mod numbers;
-mod rules;
-
-use file::bytes_of;
-use file::put;
-use file::record_in;
-use numbers::bits;
+pub use numbers::Gap;
+pub use numbers::split;
+pub use records::FARTHEST;
+pub use records::LINK;
+pub use records::MOST_LINKS;
+pub use records::MOST_ORDINARY;
+pub use records::MOST_POINTS;
+pub use records::MOST_RECORDS;
+pub use records::MOST_WAITS;
+pub use records::ORDINARY;
+pub use records::POINT;
+pub use records::RECORD_BYTES;
+pub use records::Record;
+pub use records::WAIT;
+use records::decode;
+use records::no_records;
+use records::one_if;
+use records::put_records;
+pub use rules::ACCEPTED;
 use rules::Ending;
+pub use rules::KIND_FALLS;
+pub use rules::NOT_JOINED;
+pub use rules::NOT_NAMED;
+pub use rules::NOT_ZERO;
+pub use rules::OUT_OF_BOUNDS;
 use rules::One;
+pub use rules::SAME_POINT;
 use rules::Seen;
+pub use rules::TOO_MANY;
+pub use rules::TWIN;
+pub use rules::UNKNOWN_KIND;
 use rules::ending_after;
 use rules::number_in;
-use rules::one_if;
-
-// The limits of document 01.
-pub const MOST_POINTS: u32 = 32;
-
-pub const MOST_LINKS: u32 = 8;
-
-pub const MOST_ORDINARY: u32 = 256;
-
-pub const MOST_WAITS: u32 = 64;
-
-pub const MOST_RECORDS: usize = (MOST_POINTS + MOST_LINKS + MOST_ORDINARY + MOST_WAITS) as usize;
-
-pub const FARTHEST: i32 = 100_000;
-
-pub const RECORD_BYTES: usize = 16;
+use rules::seconds_after;
 
 // A place for each point, in arrays.
 const POINT_ROOM: usize = MOST_POINTS as usize;
 
-// The kinds of record.
-pub const POINT: u8 = 1;
-
-pub const LINK: u8 = 2;
-
-pub const ORDINARY: u8 = 3;
-
-pub const WAIT: u8 = 4;
-
-// The reply numbers 1 to 12, and 0 for what is not refused.
-pub const ACCEPTED: u32 = 0;
-
+// The reply numbers of whole files and buffers; those of one record, 4 to 11 and 15, and 0 for what is not refused are those of
+// `rules`.
 pub const NO_BYTES: u32 = 1;
 
 pub const NOT_WHOLE: u32 = 2;
 
 pub const TOO_LONG: u32 = 3;
 
-pub const UNKNOWN_KIND: u32 = 4;
-
-pub const KIND_FALLS: u32 = 5;
-
-pub const TOO_MANY: u32 = 6;
-
-pub const NOT_ZERO: u32 = 7;
-
-pub const NOT_NAMED: u32 = 8;
-
-pub const SAME_POINT: u32 = 9;
-
-pub const NOT_JOINED: u32 = 10;
-
-pub const OUT_OF_BOUNDS: u32 = 11;
-
 pub const NO_ROOM: u32 = 12;
-
-// A record of a plan file, of any of the four kinds: byte 0, bytes 1 and 2, the two numbers, the pond code.
-pub struct Record {
-    pub kind: u8,
-    pub a: u8,
-    pub b: u8,
-    pub first: i32,
-    pub second: i32,
-    pub code: u32,
-}
 
 // A plan is its first `count` records, in file order. What stands in the room after them counts for nothing.
 pub struct Plan {
@@ -109,37 +76,17 @@ pub struct Reading {
     pub plan: Plan,
 }
 
-// A signed number as what it adds and what it takes away.
-pub struct Gap {
-    pub up: u32,
-    pub down: u32,
-}
-
 // Where a record is, if it is in the plan.
 pub enum Found {
     At(u32),
     Nothing,
 }
 
-// A plan file's records as they stand in it, not tested yet, and byte 3 of each.
-struct Decoded {
-    plan: Plan,
-    reserved: [u8; MOST_RECORDS],
-}
-
 // A plan without records, all its room zero.
 fn empty() -> Plan
     ensures { λ p. ⌜ p ≡ planOf [] ⌝ }
 {
-    let blank = Record {
-        kind: 0,
-        a: 0,
-        b: 0,
-        first: 0,
-        second: 0,
-        code: 0,
-    };
-    let records = [blank; MOST_RECORDS];
+    let records = no_records();
     Plan {
         count: 0,
         records: records,
@@ -157,27 +104,6 @@ fn refuse(number: u32, place: u32) -> Reading
     }
 }
 
-// The first `count` records of a file, as they stand there.
-fn decode(bytes: &[u8], count: usize) -> Decoded
-    requires { ⌜ (recordBytes * count ≤ length (now bytes)) × (count ≤ mostRecords) ⌝ }
-    ensures { λ d. ⌜ d ≡ decodedOf (entriesIn count (now (bytes .entry))) ⌝ }
-{
-    let mut plan = empty();
-    let mut reserved = [0u8; MOST_RECORDS];
-    let mut i: usize = 0;
-    while i < count {
-        let at = RECORD_BYTES * i;
-        plan.records[i] = record_in(&bytes[at..]);
-        reserved[i] = bytes[at + 3];
-        i += 1;
-    }
-    plan.count = count as u32;
-    Decoded {
-        plan: plan,
-        reserved: reserved,
-    }
-}
-
 // The records of a plan in file order, each with its byte 3: the first bad one's number and place.
 fn test_records(plan: Plan, reserved: [u8; MOST_RECORDS]) -> Refusal
     requires { ⌜ plan .count ≤ mostRecords ⌝ }
@@ -190,12 +116,15 @@ fn test_records(plan: Plan, reserved: [u8; MOST_RECORDS]) -> Refusal
         longest: 0,
     };
     let mut ends = [nothing; POINT_ROOM];
+    let mut seconds = [0u32; POINT_ROOM];
     let mut i: usize = 0;
     while i < count {
         let r = plan.records[i];
         let c = r.b as usize % POINT_ROOM;
         let end = ends[c];
-        let one = seen.read_one(r, reserved[i], end);
+        let a = r.a as usize % POINT_ROOM;
+        let led = seconds[a];
+        let one = seen.read_one(r, reserved[i], end, led);
         let One::Good(next) = one else {
             return Refusal {
                 number: number_in(one),
@@ -204,6 +133,7 @@ fn test_records(plan: Plan, reserved: [u8; MOST_RECORDS]) -> Refusal
         };
         seen = next;
         ends[c] = ending_after(r, end);
+        seconds[a] = seconds_after(r, led);
         i += 1;
     }
     Refusal {
@@ -226,8 +156,13 @@ pub fn read(bytes: &[u8]) -> Reading
     if MOST_RECORDS < n / RECORD_BYTES {
         return refuse(TOO_LONG, 0);
     }
-    let decoded = decode(bytes, n / RECORD_BYTES);
-    let plan = decoded.plan;
+    let count = n / RECORD_BYTES;
+    let decoded = decode(bytes, count);
+    let records = decoded.records;
+    let plan = Plan {
+        count: count as u32,
+        records: records,
+    };
     let reserved = decoded.reserved;
     let found = test_records(plan, reserved);
     if found.number != ACCEPTED {
@@ -259,20 +194,6 @@ pub fn check(plan: Plan) -> Refusal
     test_records(plan, [0u8; MOST_RECORDS])
 }
 
-// The records of a plan into the front of the buffer.
-fn put_records(plan: Plan, out: &mut [u8])
-    requires { ⌜ (plan .count ≤ mostRecords) × (recordBytes * plan .count ≤ length (now out)) ⌝ }
-    ensures { λ _. ⌜ now (out .exit) ≡ fileOf plan ++ drop (recordBytes * plan .count) (now (out .entry)) ⌝ }
-{
-    let count = plan.count as usize;
-    let mut i: usize = 0;
-    while i < count {
-        let r = plan.records[i];
-        put(out, RECORD_BYTES * i, bytes_of(r));
-        i += 1;
-    }
-}
-
 // Writes a plan's file into the front of the buffer; a refusal changes no byte of it.
 pub fn write(plan: Plan, out: &mut [u8]) -> Refusal
     ensures reply { λ x. ⌜ x ≡ writeOf plan (now (out .entry)) ⌝ }
@@ -288,23 +209,9 @@ pub fn write(plan: Plan, out: &mut [u8]) -> Refusal
             place: 0,
         };
     }
-    put_records(plan, out);
+    let records = plan.records;
+    put_records(records, plan.count as usize, out);
     found
-}
-
-// A signed number's parts: what it adds where it is not negative, what it takes away where it is.
-pub fn split(d: i32) -> Gap
-    ensures { λ g. ⌜ g ≡ gapOf d ⌝ }
-{
-    let b = bits(d);
-    if b < 2147483648 {
-        Gap { up: b, down: 0 }
-    } else {
-        Gap {
-            up: 0,
-            down: 4294967295 - b + 1,
-        }
-    }
 }
 
 // How many records of a plan there are, as far as it has room.
@@ -315,19 +222,33 @@ fn used(count: u32) -> usize
     if n < MOST_RECORDS { n } else { MOST_RECORDS }
 }
 
-// How many points a plan has.
-pub fn points_of(plan: Plan) -> u32
-    ensures { λ n. ⌜ n ≡ points (recordsOf plan) ⌝ }
+// How many records of a kind a plan has.
+fn count_of(plan: Plan, kind: u8) -> u32
+    ensures { λ n. ⌜ n ≡ howMany (ofByte kind) (recordsOf plan) ⌝ }
 {
     let count = used(plan.count);
     let mut n: u32 = 0;
     let mut i: usize = 0;
     while i < count {
         let r = plan.records[i];
-        n += one_if(r.kind == POINT);
+        n += one_if(r.kind == kind);
         i += 1;
     }
     n
+}
+
+// How many points a plan has.
+pub fn points_of(plan: Plan) -> u32
+    ensures { λ n. ⌜ n ≡ points (recordsOf plan) ⌝ }
+{
+    count_of(plan, POINT)
+}
+
+// How many links a plan has.
+pub fn links_of(plan: Plan) -> u32
+    ensures { λ n. ⌜ n ≡ links (recordsOf plan) ⌝ }
+{
+    count_of(plan, LINK)
 }
 
 // The link that ends at a point, by its number in the file.

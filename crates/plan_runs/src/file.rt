@@ -70,6 +70,11 @@ fn low(n: u32) -> u8 {
     (n % 256) as u8
 }
 
+// The points but x, from 0 on: the one at place y.
+fn past(y: u8, x: u8) -> u8 {
+    if y < x { y } else { wrapping_add_u8(y, 1) }
+}
+
 // The four bytes of a number, little-endian, where they fit.
 fn put_word(bytes: &mut [u8; ROOM], at: usize, n: u32) {
     if at < ROOM - 3 {
@@ -149,6 +154,16 @@ impl File {
         file
     }
 
+    // With so many ordinary records more, each of another pair of 32 points, the first point slowest.
+    pub fn with_pairs(self, count: u32, d: u32) -> File {
+        let mut file = self;
+        for k in 0..count {
+            let x = low(k / 31);
+            file = file.with(ordinary(x, d, past(low(k % 31), x)));
+        }
+        file
+    }
+
     // The same bytes, but so many of them.
     pub fn of_length(self, length: usize) -> File {
         let bytes = self.bytes;
@@ -193,7 +208,7 @@ pub fn two_links() -> File {
 pub fn full() -> File {
     points(MOST_POINTS)
         .with_many(MOST_LINKS, link(0, 20, 50, 1), 0, 1)
-        .with_many(MOST_ORDINARY, ordinary(9, minus(1), 10), 0, 0)
+        .with_pairs(MOST_ORDINARY, minus(1))
         .with_many(MOST_WAITS, wait(9, 1, 50), 0, 0)
 }
 

@@ -15,6 +15,7 @@ fn main() {
     reading::names_early();
     reading::names_late();
     reading::points_apart();
+    reading::twins();
     reading::links_joined();
     reading::waits_joined();
     reading::link_bounds();

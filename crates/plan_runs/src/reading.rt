@@ -98,7 +98,7 @@ pub fn kinds_in_order() {
     after_link(b"a link after a link", link(1, 20, 50, 3));
     reading(
         b"an ordinary record after an ordinary record",
-        points(4).with(ordinary(0, 0, 1)).with(ordinary(0, 0, 1)),
+        points(4).with(ordinary(0, 0, 1)).with(ordinary(1, 0, 0)),
     );
     after_haul(b"a wait after a wait", wait(3, 2, 35));
     reading(
@@ -123,11 +123,11 @@ pub fn counts() {
     );
     reading(
         b"256 ordinary records",
-        points(4).with_many(MOST_ORDINARY, ordinary(0, 0, 1), 0, 0),
+        points(MOST_POINTS).with_pairs(MOST_ORDINARY, 0),
     );
     reading(
         b"257 ordinary records",
-        points(4).with_many(MOST_ORDINARY + 1, ordinary(0, 0, 1), 0, 0),
+        points(MOST_POINTS).with_pairs(MOST_ORDINARY + 1, 0),
     );
     reading(
         b"64 waits",
@@ -246,6 +246,36 @@ pub fn points_apart() {
     after_points(
         b"an ordinary record too far from point 3 to point 3",
         ordinary(3, FAR + 1, 3),
+    );
+}
+
+// Points 0 to 3, an ordinary record from 1 to 0, and then the record.
+fn after_ordinary(name: &[u8], r: Row) {
+    reading(name, points(4).with(ordinary(1, minus(10), 0)).with(r));
+}
+
+// 15: twin records, refused at the second; it comes after 9 and before 11.
+pub fn twins() {
+    after_ordinary(b"an ordinary record twice", ordinary(1, minus(10), 0));
+    after_ordinary(b"a twin with another bound", ordinary(1, 5, 0));
+    after_ordinary(b"a twin with a bound too far", ordinary(1, FAR + 1, 0));
+    after_ordinary(b"the reverse pair", ordinary(0, 5, 1));
+    after_ordinary(b"another second point", ordinary(1, 5, 2));
+    after_ordinary(b"another first point", ordinary(2, 5, 0));
+    reading(
+        b"a twin with a record between",
+        points(4)
+            .with(ordinary(1, 5, 0))
+            .with(ordinary(2, 5, 0))
+            .with(ordinary(1, 5, 0)),
+    );
+    reading(
+        b"an ordinary record on a link's points",
+        linked().with(ordinary(1, 50, 2)),
+    );
+    reading(
+        b"a wait on an ordinary record's points",
+        linked().with(ordinary(3, 15, 2)).with(wait(3, 2, 35)),
     );
 }
 

@@ -1,21 +1,20 @@
 // The printing program of document 01, and the longer print of every reply, over one stream: standard input is a plan file,
 // a record of sixteen bytes 255, and event records. Reading plans, taking events, the verdict, the plan test and the text
-// of each line are the libraries'; what a record does to a sheet is `sheet`, with exact contracts. Input comes in chunks of
-// whole records and lines go out in large pieces, so memory does not grow with the input.
+// of each line are the libraries'; what a record does to a sheet is `stream`, with exact contracts. Here is what reads and
+// writes, which no contract can say. Input comes in chunks of whole records and lines go out in large pieces, so memory does
+// not grow with the input.
 ghost use Prim.Native.Nat.{_≤_};
 ghost use lib.ListN.{length};
 
-mod bytes;
 mod lines;
 mod say;
-mod sheet;
 
 use libc::STDIN_FILENO;
 use lines::Out;
 use lines::flush;
 use say::end;
 use say::say;
-use sheet::Sheet;
+use stream::Sheet;
 
 const RECORD: usize = plan::RECORD_BYTES;
 

@@ -1,28 +1,14 @@
 // Lines on their way out: they wait in a buffer and go out in large pieces.
-ghost use mathlib.Core.Path.{_≡_};
-ghost use Prim.Native.Nat.{min};
-ghost use lib.ListN.{take, length};
-ghost use Rattle.printing.specs.Buffers.{endOf, appended};
-use crate::bytes::append;
-use crate::bytes::fits;
-use crate::bytes::within;
 use libc::STDOUT_FILENO;
+use stream::behind;
+use stream::fits;
+use stream::within;
 use text::Line;
 
 // How many bytes wait in the buffer, and whether all earlier ones were written.
 pub struct Out {
     pub waiting: usize,
     pub open: bool,
-}
-
-// The text of a line behind the first `waiting` bytes of the buffer; answers how many there are then.
-fn behind(lines: &mut [u8], waiting: usize, line: Line) -> usize
-    ensures place { λ r. ⌜ r ≡ endOf (now (lines .entry)) waiting (take (min (line .len) (length (line .bytes))) (line .bytes)) ⌝ }
-    ensures bytes { λ _. ⌜ now (lines .exit) ≡ appended (now (lines .entry)) waiting (take (min (line .len) (length (line .bytes))) (line .bytes)) ⌝ }
-{
-    let bytes = line.bytes;
-    let n = within(line.len, &bytes);
-    append(lines, waiting, &bytes[..n])
 }
 
 // Writes out the bytes that wait.

@@ -1,42 +1,18 @@
 // What is printed of a sheet: one line for an event, or, in full, the plan test's answer and the reply to every board.
-ghost use mathlib.Core.Path.{_≡_};
-ghost use Prim.Native.Nat.{_<_, min};
-ghost use Rattle.plan.specs.Limits.{mostPoints};
-ghost use Rattle.plan.specs.APlan.{points, recordsOf};
-ghost use Rattle.printing.specs.Points.{lineAt};
 use crate::lines::Out;
 use crate::lines::put;
-use crate::sheet::BEGUN;
-use crate::sheet::EVENT;
-use crate::sheet::PLAYING;
-use crate::sheet::REFUSED;
-use crate::sheet::Sheet;
-use crate::sheet::TAIL;
 use board::Board;
-use board::Outcome;
-use board::Reply;
-use plan::MOST_POINTS;
 use plan::Plan;
-use text::Line;
-
-// One point in the list of an offer.
-fn line_at(plan: Plan, reply: Reply, i: u32) -> Line
-    requires { ⌜ i < mostPoints ⌝ }
-    ensures { λ l. ⌜ l ≡ lineAt plan reply i ⌝ }
-{
-    let at = i as usize;
-    let r = plan.records[at];
-    let place = reply.places[at];
-    text::point_line(i, r.code, place)
-}
-
-// How many points a plan has, as far as a reply has places.
-fn listed(plan: Plan) -> u32
-    ensures { λ n. ⌜ n ≡ min (points (recordsOf plan)) mostPoints ⌝ }
-{
-    let n = plan::points_of(plan);
-    if n < MOST_POINTS { n } else { MOST_POINTS }
-}
+use replies::Outcome;
+use replies::Reply;
+use stream::BEGUN;
+use stream::EVENT;
+use stream::PLAYING;
+use stream::REFUSED;
+use stream::Sheet;
+use stream::TAIL;
+use stream::line_at;
+use stream::listed;
 
 // The list of an offer: a line for each point of the plan.
 fn list(plan: Plan, reply: Reply, lines: &mut [u8], out: Out) -> Out {
@@ -53,7 +29,7 @@ fn list(plan: Plan, reply: Reply, lines: &mut [u8], out: Out) -> Out {
 
 // What a board is, and where it offers, the list.
 fn replied(plan: Plan, board: Board, lines: &mut [u8], out: Out) -> Out {
-    let reply = board::reply_of(plan, board);
+    let reply = replies::reply_of(plan, board);
     let now = put(lines, out, text::board_line(board, reply));
     let outcome = reply.outcome;
     let Outcome::Offers = outcome else {

@@ -12,11 +12,11 @@ use crate::says::sum_of;
 use crate::says::sum_of_plan;
 use crate::says::within;
 use board::Board;
-use board::Outcome;
 use board::Taken;
-use board::Verdict;
 use plan::Plan;
+use replies::Outcome;
 use vee::Answer;
+use verdict::Verdict;
 
 const REPLY: u32 = 16;
 
@@ -44,14 +44,14 @@ fn coded(plan: Plan, code: u32) -> Plan {
 fn replies(plan: Plan, board: Board, times: u32) -> u32 {
     let mut sum: u32 = 0;
     for k in 0..times {
-        let reply = board::reply_of(coded(plan, k), board);
+        let reply = replies::reply_of(coded(plan, k), board);
         sum = mixed(sum, reply.latest);
     }
     sum
 }
 
 fn say_reply(plan: Plan, board: Board, sum: u32) {
-    let reply = board::reply_of(plan, board);
+    let reply = replies::reply_of(plan, board);
     let outcome = reply.outcome;
     let places = reply.places;
     match outcome {
@@ -100,14 +100,14 @@ fn verdicts(plan: Plan, board: Board, times: u32) -> u32 {
     for k in 0..times {
         sum = mixed(
             sum,
-            verdict_number(board::verdict_of(coded(plan, k), board)),
+            verdict_number(verdict::verdict_of(coded(plan, k), board)),
         );
     }
     sum
 }
 
 fn say_verdict(plan: Plan, board: Board, sum: u32) {
-    match board::verdict_of(plan, board) {
+    match verdict::verdict_of(plan, board) {
         Verdict::Refused(number, place) => say(VERDICT, number, place, sum),
         Verdict::Kept => say(VERDICT, 0, 0, sum),
         Verdict::Broken(place) => say(VERDICT, 100, place, sum),

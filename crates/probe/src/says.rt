@@ -2,14 +2,14 @@
 ghost use Rattle.io.specs.Counts.{Counts};
 use crate::block::wide;
 use board::Board;
-use board::Place;
 use board::ROOM;
-use board::State;
 use libc::STDOUT_FILENO;
 use plan::MOST_RECORDS;
 use plan::Plan;
 use plan::Record;
 use plan::split;
+use replies::Place;
+use replies::State;
 
 // So many bytes of a buffer, or all that it has.
 pub fn within(n: usize, bytes: &[u8]) -> usize

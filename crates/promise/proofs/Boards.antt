@@ -15,11 +15,11 @@ use Rattle.points.proofs.Laws.{member-past}
 use Rattle.plan.specs.Choice.{if_then_else_}
 use Rattle.plan.specs.Limits.{mostPoints, farthest}
 use Rattle.plan.specs.APlan.{Kind, link, ordinary, wait, is, some, points, watched, linkTo, blank, gapOf}
-use Rattle.plan.specs.declared.Record.{Record}
+use Rattle.records.specs.declared.Record.{Record}
 use Rattle.plan.proofs.Accepted.{Accepted, not-a}
 use Rattle.board.specs.Boards.{isDone, minute, shortest, longest, running}
 use Rattle.board.specs.Windows.{shuts, foremans, isOpen, earliest, greatest, low, never, bound, least, high, leastHigh, H, someOpen, allAbove}
-use Rattle.board.specs.Replies.{stuck, latest}
+use Rattle.board.specs.Stuck.{stuck, latest}
 use Rattle.board.specs.Events.{eventMinute, eventPoint, eventSet, endsRunning, boardAfter}
 use Rattle.board.specs.declared.Board.{Board}
 use Rattle.board.proofs.Theorems.Each.{clash, both, point-every, greatest-le}
@@ -198,11 +198,34 @@ module _ (rs : List Record) (ok : Accepted rs) (b : Board) where
 
   -- ---- H
 
-  -- an ordinary record from a done point bounds the High of the point that it leads to
-  high-at : {X u d q : ℕ} → OrdinaryIn rs X u d q → isDone b X ≡ true → high rs b q ≤ minute b X + farthest + u - d
+  -- An ordinary record from a done point bounds the High of the point that it leads to.
+  pub high-at : {X u d q : ℕ} → OrdinaryIn rs X u d q → isDone b X ≡ true → high rs b q ≤ minute b X + farthest + u - d
   high-at {X} {u} {d} {q} r x =
       let e : bound b q (r .what) ≡ minute b X + farthest + u - d = rw (eq-eqb _ _ (r .to), r .has .kind, r .from, x, r .up, r .down) in
       omega (arith, rw (r .has .here) at (least-le (bound b q) rs (r .has .place) (r .has .listed)), e)
+
+  -- There is no High, or a record from a done point gives it.
+  abbrev pub HighFrom : ℕ → Type 0
+  HighFrom q = (high rs b q ≡ never) ⊎ ((X u d : ℕ) × OrdinaryIn rs X u d q × (isDone b X ≡ true) × (minute b X + farthest + u - d ≡ high rs b q))
+
+  pub high-from : (q : ℕ) → HighFrom q
+  high-from q = elim (least-at (bound b q) rs) [ inl e ↦ inl e | inr (i, h, e) ↦ go i h e ]
+    where
+      go : (i : ℕ) → i < length rs → bound b q (getD rs i blank) ≡ high rs b q → HighFrom q
+      go i h e = this (eqb (r .b) q && (is ordinary r && isDone b (r .a))) refl e
+        where
+          r : Record
+          r = getD rs i blank
+
+          this : (t : Bool) → (eqb (r .b) q && (is ordinary r && isDone b (r .a))) ≡ t
+              → (if t then minute b (r .a) + farthest + gapOf (r .first) .up - gapOf (r .first) .down else never) ≡ high rs b q
+              → HighFrom q
+          this true t f =
+              let t1 = both (eqb (r .b) q) _ t in
+              let t2 = both (is ordinary r) _ (t1 .1) in
+              let in-plan = rw (eqb-true (r .b) q (t1 .0)) at (ordinary-in rs ok (record { place = i; listed = h; here = refl; kind = t2 .0 })) in
+              inr (r .a, gapOf (r .first) .up, gapOf (r .first) .down, in-plan, t2 .1, f)
+          this false t f = inl (sym f)
 
   -- A minute that is not past the latest is not past H.
   pub to-H : (t : ℕ) → stuck rs b ≡ false → (someOpen rs b ≡ true → t ≤ latest rs b) → ToH (netOf rs) (saysOf b) t

@@ -11,16 +11,17 @@ use Rattle.plan.specs.Choice.{if_then_else_}
 use Rattle.plan.specs.APlan.{recordsOf}
 use Rattle.plan.specs.Held.{All, IsByte}
 use Rattle.plan.specs.ReplyNumbers.{checkOf}
-use Rattle.plan.specs.declared.Record.{Record}
+use Rattle.records.specs.declared.Record.{Record}
 use Rattle.plan.specs.declared.Plan.{Plan}
 use Rattle.board.specs.Boards.{sound}
 use Rattle.board.specs.Windows.{someOpen}
-use Rattle.board.specs.Replies.{finished, stuck, outcomeOf, replyOf}
+use Rattle.board.specs.Stuck.{finished, stuck}
+use Rattle.replies.specs.Replies.{outcomeOf, replyOf}
 use Rattle.board.specs.Events.{eventNumber, boardAfter, taken, takeOf}
-use Rattle.board.specs.Verdicts.{verdictOf}
+use Rattle.verdict.specs.Verdicts.{verdictOf}
 use Rattle.board.specs.declared.Board.{Board}
-use Rattle.board.specs.declared.Outcome.{Outcome}
-use Rattle.board.specs.declared.Outcome.the-variants.{Refused, Finished, Stuck, Waiting, Offers}
+use Rattle.replies.specs.declared.Outcome.{Outcome}
+use Rattle.replies.specs.declared.Outcome.the-variants.{Refused, Finished, Stuck, Waiting, Offers}
 use Rattle.board.proofs.Theorems.Each.{clash, differ}
 use Rattle.vee.specs.declared.Answer.the-variants as answer
 use Rattle.vee.specs.PlanTest.{Tested}

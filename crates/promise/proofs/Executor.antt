@@ -14,20 +14,21 @@ use Rattle.plan.specs.Choice.{if_then_else_}
 use Rattle.plan.specs.APlan.{recordsOf}
 use Rattle.plan.specs.Held.{All, IsByte}
 use Rattle.plan.specs.ReplyNumbers.{checkOf}
-use Rattle.plan.specs.declared.Record.{Record}
+use Rattle.records.specs.declared.Record.{Record}
 use Rattle.plan.specs.declared.Plan.{Plan}
 use Rattle.plan.proofs.Accepted.{Accepted, accepted-plan}
 use Rattle.board.specs.Boards.{fresh, sound}
 use Rattle.board.specs.Windows.{someOpen}
-use Rattle.board.specs.Replies.{finished, stuck, outcomeOf, isOffer, offer, bare, replyOf}
+use Rattle.board.specs.Stuck.{finished, stuck}
+use Rattle.replies.specs.Replies.{outcomeOf, isOffer, offer, bare, replyOf}
 use Rattle.board.specs.Events.{eventSet, eventNumber, boardAfter, taken, takeOf}
-use Rattle.board.specs.Verdicts.{firstBroken, endedOf, verdictOf}
+use Rattle.verdict.specs.Verdicts.{firstBroken, endedOf, verdictOf}
 use Rattle.board.specs.declared.Board.{Board}
-use Rattle.board.specs.declared.Outcome.{Outcome}
-use Rattle.board.specs.declared.Outcome.the-variants.{Refused, Finished, Stuck, Waiting, Offers}
+use Rattle.replies.specs.declared.Outcome.{Outcome}
+use Rattle.replies.specs.declared.Outcome.the-variants.{Refused, Finished, Stuck, Waiting, Offers}
 use Rattle.board.proofs.Theorems.Each.{clash, differ}
 use Rattle.board.proofs.Theorems.Soundness.{HeldBoard, sound-means, fresh-sound}
-use Rattle.board.proofs.Theorems.Numbers.{reply-number}
+use Rattle.replies.proofs.Numbers.{reply-number}
 use Rattle.board.proofs.Theorems.Taking.{takes, event-sound, event-marks, event-more}
 use Rattle.network.proofs.Plans.{Safe}
 use Rattle.network.proofs.Safety.{safe-fresh, safe-event}

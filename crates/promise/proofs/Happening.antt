@@ -16,21 +16,22 @@ use Rattle.plan.specs.APlan.{link, is, points, watched, linkTo, blank, recordsO
 use Rattle.plan.specs.Held.{All, IsByte}
 use Rattle.plan.specs.PlanFile.{wordAt}
 use Rattle.plan.specs.ReplyNumbers.{checkOf}
-use Rattle.plan.specs.declared.Record.{Record}
+use Rattle.records.specs.declared.Record.{Record}
 use Rattle.plan.specs.declared.Plan.{Plan}
 use Rattle.plan.proofs.Words.{word-back}
 use Rattle.plan.proofs.Accepted.{Accepted, accepted-plan}
 use Rattle.board.specs.Boards.{isDone, minute, longest, running, each, sound}
 use Rattle.board.specs.Windows.{isOpen, low, someOpen}
-use Rattle.board.specs.Replies.{finished, stuck, latest, outcomeOf, replyOf}
+use Rattle.board.specs.Stuck.{finished, stuck, latest}
+use Rattle.replies.specs.Replies.{outcomeOf, replyOf}
 use Rattle.board.specs.Events.{eventMinute, eventPoint, eventSet, noPoint, wellFormed, endsRunning, inTime, notLate, eventNumber}
 use Rattle.board.specs.declared.Board.{Board}
-use Rattle.board.specs.declared.Outcome.the-variants.{Offers}
+use Rattle.replies.specs.declared.Outcome.the-variants.{Offers}
 use Rattle.board.proofs.Theorems.Each.{clash, both, and-both, as-unless, member-every, below-subset, at-each}
 use Rattle.board.proofs.Theorems.Soundness.{HeldBoard, Sound, sound-means}
 use Rattle.board.proofs.Theorems.Links.{link-at, link-to}
 use Rattle.board.proofs.Theorems.Taking.{opened, something-open}
-use Rattle.board.proofs.Theorems.Offered as offers
+use Rattle.replies.proofs.Offered as offers
 use Rattle.promise.specs.Plays.{Event, eventBytes, CanHappen}
 use Rattle.promise.proofs.Boards.{ends-in-plan}
 use Rattle.promise.proofs.Standing.{all-done}

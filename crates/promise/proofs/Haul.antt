@@ -1,9 +1,13 @@
--- "Haul to one pond" of document 01 as an instance: the test computed says yes, so the haul is accepted and passes, and every
--- play of it runs to kept. Assumes nothing.
+-- "Haul to one pond" of document 01 as an instance: the test computed says yes, so the haul is accepted and passes, every
+-- play of it runs to kept, and its worked day is a good sheet. Assumes nothing.
 use mathlib.Core.Path.{_≡_, refl, subst}
+use Prim.Native.Nat.{ℕ}
+use native.Mathlib.Omega.{arith}
+use Rattle.points.specs.Sets.{from, firstOr}
 use Rattle.plan.specs.Haul.{haul}
-use Rattle.plan.specs.APlan.{howMany, some, firstThat}
+use Rattle.plan.specs.APlan.{howMany, some, firstThat, recordsOf}
 use Rattle.plan.specs.ReplyNumbers.{checkOf, firstBad, numberFor, lastKind}
+use Rattle.board.specs.Boards.{each}
 use Rattle.vee.specs.declared.Answer.{Answer}
 use Rattle.vee.specs.declared.Answer.the-variants as answer
 use Rattle.vee.specs.PlanTest.{Tested, spans, spread, projections, many}
@@ -12,6 +16,10 @@ use Rattle.vee.proofs.Executable.{computed}
 use Rattle.vee.proofs.Yes.{yes-passes}
 use Rattle.promise.specs.Nets.{PassesPlan}
 use Rattle.promise.specs.Plays.{Players, Finishes}
+use Rattle.promise.specs.GoodSheets.{inPlace, inOrder, Near, GoodSheet, eventsOf, Gives}
+use Rattle.promise.proofs.Day.{day}
+use Rattle.promise.proofs.Keeping.{good-computed}
+use Rattle.promise.proofs.GoodSheets.{good-given}
 use Rattle.promise.proofs.TestYes.{yes-accepted, yes-finishes}
 
 -- Worked case 1, computed; so the contract of the test permits yes.
@@ -33,3 +41,17 @@ haul-passes = yes-passes haul-yes
 -- Whatever haulage and the foreman decide, the haul runs to kept in at most four events.
 pub haul-finishes : (x : Players haul) → Finishes haul x
 haul-finishes x = yes-finishes haul-yes x
+
+-- ---- a sheet
+
+-- The worked day, its drive of 28 minutes, is a good sheet of the haul.
+abbrev drive : ℕ → ℕ
+drive C = 28
+
+pub day-good : GoodSheet haul drive day
+unfolding inPlace inOrder firstOr Near each from howMany firstThat
+day-good = good-computed haul haul-accepted drive day refl (omega arith) (omega arith, (omega arith, (omega arith, (omega arith, tt))))
+
+-- So its events give it; `Day` has them computed.
+pub day-given : Gives haul (eventsOf (recordsOf haul) day) day
+day-given = good-given haul haul-accepted haul-passes drive day day-good

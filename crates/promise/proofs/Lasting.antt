@@ -12,7 +12,7 @@ use Rattle.points.proofs.Laws.{member-empty, member-small}
 use Rattle.plan.specs.Limits.{mostPoints}
 use Rattle.plan.specs.APlan.{watched, recordsOf}
 use Rattle.plan.specs.ReplyNumbers.{checkOf}
-use Rattle.plan.specs.declared.Record.{Record}
+use Rattle.records.specs.declared.Record.{Record}
 use Rattle.plan.specs.declared.Plan.{Plan}
 use Rattle.plan.proofs.Accepted.{Accepted, accepted-plan}
 use Rattle.board.specs.Boards.{sound, isDone, minute}
@@ -114,8 +114,8 @@ module _ (p : Plan) (ok : checkOf p .number ≡ 0) (passes : PassesPlan p) (x : 
         (agrees-event (rules-of rs known) (event-of rs known b (w .held) m s fits take) (in-time-of rs known b m) agree
         (record { ended = λ run d. at-end run d; running = λ run u. in-end run }))
 
-  -- the durations agree with each board of a play
-  agrees : {b : Board} {k : ℕ} → Play p x b k → Agrees (netOf rs) (saysOf b) ω
+  -- The durations agree with each board of a play: no running link has run out.
+  pub agrees : {b : Board} {k : ℕ} → Play p x b k → Agrees (netOf rs) (saysOf b) ω
   agrees plays.start = record { ended = λ {A} l a c. clash (sym a ∙ member-empty A); running = λ {A} r. clash (sym (r .started) ∙ member-empty A) }
   agrees (plays.next y m) = agrees-next (happened-run p ok passes (play-happened p ok passes x y)) m (agrees y)
 

@@ -1,7 +1,9 @@
--- The theorems of the promise, for later crates to cite: `yes-finishes` and `yes-promised` of `TestYes`; `yes-ends` of `Ends`,
--- how the programs end; `executor` of
--- `Executor`; `happening-accepted`, `happened-promised` and `finishes` of `Play`; `at-durations` of `Lasting`;
--- `some-players` of `Players`; and the haul of document 01 as an instance, in `Haul`. The others lead up to these.
+-- The theorems of the promise, for later crates to cite: `yes-finishes`, `yes-promised` and `yes-exactly-the-good` of
+-- `TestYes`; `yes-ends` of `Ends`, how the programs end; `executor` of `Executor`; `happening-accepted`, `happened-promised`
+-- and `finishes` of `Play`; `at-durations` of `Lasting`; `some-players` of `Players`; `exactly-the-good` of `LetThrough`, with
+-- `good-given` of `GoodSheets` and `through-good`; `untied-forbidden` of `Untied`; and the haul of document 01 as an
+-- instance, in `Haul` and `Day`. The others lead up to these.
+pub mod Day
 pub mod Nets
 pub mod Gathering
 pub mod Boards
@@ -12,6 +14,13 @@ pub mod Making
 pub mod Players
 pub mod Play
 pub mod Lasting
+pub mod After
+pub mod Orders
+pub mod Sheets
+pub mod GoodSheets
+pub mod LetThrough
+pub mod Keeping
 pub mod TestYes
 pub mod Haul
 pub mod Ends
+pub mod Untied

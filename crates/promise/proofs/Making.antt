@@ -16,21 +16,22 @@ use Rattle.plan.specs.Choice.{if_then_else_}
 use Rattle.plan.specs.Limits.{mostPoints, farthest}
 use Rattle.plan.specs.APlan.{link, is, some, watched, blank, recordsOf}
 use Rattle.plan.specs.ReplyNumbers.{checkOf}
-use Rattle.plan.specs.declared.Record.{Record}
+use Rattle.records.specs.declared.Record.{Record}
 use Rattle.plan.specs.declared.Plan.{Plan}
 use Rattle.plan.proofs.Accepted.{Accepted, accepted-plan, first-found}
 use Rattle.board.specs.Boards.{running, minute, sound}
 use Rattle.board.specs.Windows.{low, never, someOpen}
-use Rattle.board.specs.Replies.{stuck, latest, stateOf, replyOf}
+use Rattle.board.specs.Stuck.{stuck, latest}
+use Rattle.replies.specs.Replies.{stateOf, replyOf}
 use Rattle.board.specs.Events.{noPoint, endsRunning}
 use Rattle.board.specs.declared.Board.{Board}
-use Rattle.board.specs.declared.State.the-variants.{Offered}
-use Rattle.board.specs.declared.Outcome.the-variants.{Offers}
+use Rattle.replies.specs.declared.State.the-variants.{Offered}
+use Rattle.replies.specs.declared.Outcome.the-variants.{Offers}
 use Rattle.board.proofs.Theorems.Each.{clash, both, and-both}
 use Rattle.board.proofs.Theorems.Soundness.{HeldBoard, Sound, sound-means}
 use Rattle.board.proofs.Theorems.Links.{link-at, link-to}
 use Rattle.board.proofs.Theorems.Taking.{opened}
-use Rattle.board.proofs.Theorems.Offered as offers
+use Rattle.replies.proofs.Offered as offers
 use Rattle.promise.specs.Plays.{Event, CanHappen, Haulage, Choice, firstEnd, endingAt, comesFirst, latestEnd}
 use Rattle.promise.proofs.Boards.{ends-in-plan}
 use Rattle.promise.proofs.Gathering.{least-of-le, least-of-at, set-of-in, set-of-out, set-of-fits}

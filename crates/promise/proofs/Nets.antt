@@ -11,7 +11,7 @@ use lib.IntN.{ℤ, pos, negsuc}
 use lib.ListN.{length, getD}
 use borrow.Author.Tests.{ltb-true, lt-ltb, eqb-true, eq-eqb, not-true}
 use Rattle.plan.specs.APlan.{Kind, point, link, ordinary, wait, is, some, points, watched, endsAt, linkTo, blank, gapOf}
-use Rattle.plan.specs.declared.Record.{Record}
+use Rattle.records.specs.declared.Record.{Record}
 use Rattle.plan.proofs.Accepted as plan
 use Rattle.plan.proofs.Accepted.{Accepted, getD-some, first-found, not-a}
 use Rattle.board.specs.Boards.{shortest, longest}

@@ -9,15 +9,16 @@ use native.Mathlib.Omega.{arith}
 use Rattle.plan.specs.Choice.{if_then_else_}
 use Rattle.plan.specs.APlan.{points, recordsOf}
 use Rattle.plan.specs.ReplyNumbers.{checkOf}
-use Rattle.plan.specs.declared.Record.{Record}
+use Rattle.records.specs.declared.Record.{Record}
 use Rattle.plan.specs.declared.Plan.{Plan}
 use Rattle.plan.proofs.Accepted.{Accepted, accepted-plan}
 use Rattle.board.specs.Boards.{sound}
 use Rattle.board.specs.Windows.{someOpen}
-use Rattle.board.specs.Replies.{finished, stuck, outcomeOf}
+use Rattle.board.specs.Stuck.{finished, stuck}
+use Rattle.replies.specs.Replies.{outcomeOf}
 use Rattle.board.specs.Events.{takeOf}
 use Rattle.board.specs.declared.Board.{Board}
-use Rattle.board.specs.declared.Outcome.the-variants.{Finished, Stuck, Waiting, Offers}
+use Rattle.replies.specs.declared.Outcome.the-variants.{Finished, Stuck, Waiting, Offers}
 use Rattle.board.proofs.Theorems.Soundness.{HeldBoard, sound-means}
 use Rattle.board.proofs.Theorems.Each.{differ}
 use Rattle.promise.specs.Nets.{PassesPlan}
@@ -31,15 +32,16 @@ use Rattle.promise.proofs.Happening.{happens, happens-bytes}
 use Rattle.promise.proofs.Making.{by-choice, by-wait}
 use Rattle.promise.proofs.Players.{some-players}
 
--- a board that waits has nothing open
-waiting : (rs : List Record) (b : Board) → outcomeOf rs b ≡ Waiting → (stuck rs b ≡ false) × (someOpen rs b ≡ false)
+-- A board that waits is neither finished nor stuck, and nothing is open.
+pub waiting : (rs : List Record) (b : Board) → outcomeOf rs b ≡ Waiting → (finished rs b ≡ false) × (stuck rs b ≡ false) × (someOpen rs b ≡ false)
 unfolding outcomeOf
 waiting rs b e = go (finished rs b) (stuck rs b) (someOpen rs b) e
   where
-    go : (f s o : Bool) → (if f then Finished else if s then Stuck else if not o then Waiting else Offers) ≡ Waiting → (s ≡ false) × (o ≡ false)
+    go : (f s o : Bool) → (if f then Finished else if s then Stuck else if not o then Waiting else Offers) ≡ Waiting
+        → (f ≡ false) × (s ≡ false) × (o ≡ false)
     go true s o e = differ cc
     go false true o e = differ cc
-    go false false false e = (refl, refl)
+    go false false false e = (refl, refl, refl)
     go false false true e = differ cc
 
 module _ (p : Plan) (ok : checkOf p .number ≡ 0) (passes : PassesPlan p) where
@@ -70,7 +72,7 @@ module _ (p : Plan) (ok : checkOf p .number ≡ 0) (passes : PassesPlan p) where
     made-can-happen {x} (choice g o) = by-choice p ok b held good (x .haulage k b g) (x .foreman k b o)
     made-can-happen {x} (wait g o) =
         let t = waiting rs b (sym (outcome-is p ok b g) ∙ o) in
-        by-wait p ok b held good (x .haulage k b g) (t .1) (t .0)
+        by-wait p ok b held good (x .haulage k b g) (t .2) (t .1)
 
     -- Where not all is done they make something.
     pub make-on : (x : Players p) → (finished rs b ≡ true) ⊎ ((e : Event) × Make p x k b e)

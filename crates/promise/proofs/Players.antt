@@ -12,20 +12,21 @@ use Rattle.plan.specs.Choice.{if_then_else_}
 use Rattle.plan.specs.Limits.{mostPoints, farthest}
 use Rattle.plan.specs.APlan.{watched, linkTo, recordsOf}
 use Rattle.plan.specs.ReplyNumbers.{checkOf}
-use Rattle.plan.specs.declared.Record.{Record}
+use Rattle.records.specs.declared.Record.{Record}
 use Rattle.plan.specs.declared.Plan.{Plan}
 use Rattle.plan.proofs.Accepted.{Accepted, accepted-plan}
 use Rattle.board.specs.Boards.{sound, isDone, minute, longest}
 use Rattle.board.specs.Windows.{isOpen, low, H, allAbove}
-use Rattle.board.specs.Replies.{latest, stateOf, bare, soundReply, replyOf}
+use Rattle.board.specs.Stuck.{latest}
+use Rattle.replies.specs.Replies.{stateOf, bare, soundReply, replyOf}
 use Rattle.board.specs.declared.Board.{Board}
-use Rattle.board.specs.declared.State.the-variants.{Done, Watched, Shut, Held, Offered}
-use Rattle.board.specs.declared.Outcome.the-variants.{Refused, Offers}
+use Rattle.replies.specs.declared.State.the-variants.{Done, Watched, Shut, Held, Offered}
+use Rattle.replies.specs.declared.Outcome.the-variants.{Refused, Offers}
 use Rattle.board.proofs.Theorems.Each.{clash, differ, both, point-every}
 use Rattle.board.proofs.Theorems.Soundness.{sound-means}
 use Rattle.board.proofs.Theorems.Low.{low-near}
 use Rattle.board.proofs.Theorems.Taking.{opened}
-use Rattle.board.proofs.Theorems.Offered as offers
+use Rattle.replies.proofs.Offered as offers
 use Rattle.network.specs.Projection.{InBounds}
 use Rattle.network.proofs.Search.{all-or-one}
 use Rattle.vee.specs.PlanTest.{netOf}
@@ -78,8 +79,8 @@ module _ (p : Plan) (ok : checkOf p .number ≡ 0) where
       go true e = refl
       go false e = differ cc
 
-  -- an open point whose Low is not past the latest is offered
-  is-offered : (b : Board) (q : ℕ) → isOpen rs b q ≡ true → low rs b q ≤ latest rs b → stateOf rs b q ≡ Offered (low rs b q)
+  -- An open point whose Low is not past the latest is offered.
+  pub is-offered : (b : Board) (q : ℕ) → isOpen rs b q ≡ true → low rs b q ≤ latest rs b → stateOf rs b q ≡ Offered (low rs b q)
   unfolding stateOf
   is-offered b q can l =
       let c = opened rs b q can in

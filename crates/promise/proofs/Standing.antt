@@ -2,11 +2,11 @@
 -- all are done each record is kept. Assumes that the records keep the rules of a plan.
 use mathlib.Core.Path.{_≡_, refl, sym, _∙_}
 use mathlib.Core.Logic.{_⊎_, inl, inr}
-use mathlib.Core.Bool.{Bool, true, false, not, cond, _&&_, _||_}
+use mathlib.Core.Bool.{Bool, true, false, not, cond, _||_}
 use mathlib.Core.List.{List, [], _∷_}
 use Prim.Native.Nat.{ℕ, zero, suc, _+_, _-_, _≤_, _<_, min}
 use native.Mathlib.Omega.{arith}
-use lib.Dec.{eqb, ltb}
+use lib.Dec.{ltb}
 use lib.ListN.{length, getD}
 use borrow.Author.Tests.{ltb-true, lt-ltb, le-leb, eqb-true, eq-eqb, not-true}
 use Rattle.points.specs.Sets.{member, membersOf, countOf, belowOf, passing, from}
@@ -14,15 +14,15 @@ use Rattle.points.proofs.Laws.{member-small, member-below, same-members, below-
 use Rattle.plan.specs.Choice.{if_then_else_}
 use Rattle.plan.specs.Limits.{mostPoints, farthest}
 use Rattle.plan.specs.APlan.{ordinary, wait, is, some, points, linkTo, blank, gapOf}
-use Rattle.plan.specs.declared.Record.{Record}
+use Rattle.records.specs.declared.Record.{Record}
 use Rattle.plan.proofs.Accepted.{Accepted}
 use Rattle.board.specs.Boards.{isDone, minute, running}
-use Rattle.board.specs.Windows.{isOpen, low, never, bound, high, H, someOpen, allAbove}
-use Rattle.board.specs.Replies.{finished, stuck}
-use Rattle.board.specs.Verdicts.{ordinaryKept, waitKept, kept, firstBroken}
+use Rattle.board.specs.Windows.{isOpen, low, never, high, H, someOpen, allAbove}
+use Rattle.board.specs.Stuck.{finished, stuck}
+use Rattle.verdict.specs.Verdicts.{ordinaryKept, waitKept, kept, firstBroken}
 use Rattle.board.specs.declared.Board.{Board}
-use Rattle.board.specs.declared.Verdict.the-variants.{Kept}
-use Rattle.board.proofs.Theorems.Each.{clash, both, unless, every-point, point-every}
+use Rattle.verdict.specs.declared.Verdict.the-variants.{Kept}
+use Rattle.board.proofs.Theorems.Each.{clash, unless, every-point, point-every}
 use Rattle.board.proofs.Theorems.Soundness.{HeldBoard, Sound}
 use Rattle.board.proofs.Theorems.Low.{low-near}
 use Rattle.board.proofs.Theorems.Taking.{opened, something-open}
@@ -37,7 +37,7 @@ use Rattle.network.proofs.Durations as durations
 use Rattle.network.proofs.Safety.{open-or-running, low-to-high, all-kept}
 use Rattle.vee.specs.PlanTest.{Has, OrdinaryIn, netOf}
 use Rattle.promise.proofs.Nets.{keeps, has-some, ordinary-in, wait-in, link-of, rules-of}
-use Rattle.promise.proofs.Boards.{saysOf, least-at, H-at, in-time-of, open-of, is-open, low-from}
+use Rattle.promise.proofs.Boards.{saysOf, H-at, in-time-of, open-of, is-open, low-from, high-from}
 
 -- Each number passes a test or does not.
 pub told : (f : ℕ → Bool) (q : ℕ) → (f q ≡ true) ⊎ (f q ≡ false)
@@ -136,21 +136,8 @@ module _ (rs : List Record) (ok : Accepted rs) (passes : Passes (netOf rs)) (b :
 
     -- H is this point's High
     by-high : high rs b q ≡ H rs b → ⊥
-    by-high e = elim (least-at (bound b q) rs) [ inl n ↦ no-H (sym e ∙ n) | inr a ↦ go (a .0) (a .1) (a .2 ∙ e) ]
-      where
-        go : (i : ℕ) → i < length rs → bound b q (getD rs i blank) ≡ H rs b → ⊥
-        go i h f = this (eqb (r .b) q && (is ordinary r && isDone b (r .a))) refl f
-          where
-            r : Record
-            r = getD rs i blank
-
-            this : (t : Bool) → (eqb (r .b) q && (is ordinary r && isDone b (r .a))) ≡ t
-                → (if t then minute b (r .a) + farthest + gapOf (r .first) .up - gapOf (r .first) .down else never) ≡ H rs b → ⊥
-            this true t f =
-                let t1 = both (eqb (r .b) q) _ t in
-                let t2 = both (is ordinary r) _ (t1 .1) in
-                by-record (rw (eqb-true (r .b) q (t1 .0)) at (ordinary-in rs ok (record { place = i; listed = h; here = refl; kind = t2 .0 }))) (t2 .1) f
-            this false t f = no-H (sym f)
+    by-high e =
+        elim (high-from rs ok b q) [ inl n ↦ no-H (sym e ∙ n) | inr (X, u, d, r, x, f) ↦ by-record r x (f ∙ e) ]
 
   -- A board that is not finished is not stuck.
   pub not-stuck : finished rs b ≡ false → stuck rs b ≡ false

@@ -10,8 +10,10 @@ use Rattle.vee.specs.PlanTest.{Tested, tested}
 use Rattle.vee.proofs.Yes.{yes-passes}
 use Rattle.promise.specs.Runs.{Run, Promised}
 use Rattle.promise.specs.Plays.{Players, Finishes}
+use Rattle.promise.specs.GoodSheets.{ExactlyTheGood}
 use Rattle.promise.proofs.Executor.{executor}
 use Rattle.promise.proofs.Play.{finishes}
+use Rattle.promise.proofs.LetThrough.{exactly-the-good}
 
 -- A plan that the test says yes to is accepted.
 pub yes-accepted : {p : Plan} {j : ℕ} → Tested p (answer.Yes j) → checkOf p .number ≡ 0
@@ -24,3 +26,7 @@ yes-promised {p} t r = executor p (yes-accepted t) (yes-passes t) r
 -- Whoever plays, all is done in at most as many events as there are points, and the verdict is kept.
 pub yes-finishes : {p : Plan} {j : ℕ} → Tested p (answer.Yes j) → (x : Players p) → Finishes p x
 yes-finishes {p} t x = finishes p (yes-accepted t) (yes-passes t) x
+
+-- The sheets that the engine lets through are exactly the good ones.
+pub yes-exactly-the-good : {p : Plan} {j : ℕ} → Tested p (answer.Yes j) → ExactlyTheGood p
+yes-exactly-the-good {p} t = exactly-the-good p (yes-accepted t) (yes-passes t)

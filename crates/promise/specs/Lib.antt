@@ -1,6 +1,7 @@
 -- What a reader has to believe of the promise, in the order of demand 3: the network of a plan and what it is to pass, runs
--- of events from the fresh board and what is promised of each board, and plays of the foreman and haulage. No proofs are
--- here.
+-- of events from the fresh board and what is promised of each board, and plays of the foreman and haulage; and document
+-- 02, §9: good sheets. No proofs are here.
 pub mod Nets
 pub mod Runs
 pub mod Plays
+pub mod GoodSheets

@@ -11,17 +11,18 @@ use Rattle.plan.specs.Choice.{if_then_else_}
 use Rattle.plan.specs.Limits.{mostPoints}
 use Rattle.plan.specs.APlan.{points, watched, linkTo, recordsOf}
 use Rattle.plan.specs.PlanFile.{wordBytes}
-use Rattle.plan.specs.declared.Record.{Record}
+use Rattle.records.specs.declared.Record.{Record}
 use Rattle.plan.specs.declared.Plan.{Plan}
 use Rattle.board.specs.Boards.{fresh, sound, isDone, minute, shortest, longest}
 use Rattle.board.specs.Windows.{never}
-use Rattle.board.specs.Replies.{finished, latest, stateOf, replyOf}
+use Rattle.board.specs.Stuck.{finished, latest}
+use Rattle.replies.specs.Replies.{stateOf, replyOf}
 use Rattle.board.specs.Events.{noPoint, endsRunning, takeOf}
-use Rattle.board.specs.Verdicts.{verdictOf}
+use Rattle.verdict.specs.Verdicts.{verdictOf}
 use Rattle.board.specs.declared.Board.{Board}
-use Rattle.board.specs.declared.State.the-variants.{Offered}
-use Rattle.board.specs.declared.Outcome.the-variants.{Waiting, Offers}
-use Rattle.board.specs.declared.Verdict.the-variants.{Kept}
+use Rattle.replies.specs.declared.State.the-variants.{Offered}
+use Rattle.replies.specs.declared.Outcome.the-variants.{Waiting, Offers}
+use Rattle.verdict.specs.declared.Verdict.the-variants.{Kept}
 
 -- ---- what can happen next
 

@@ -9,13 +9,14 @@ use Rattle.plan.specs.APlan.{points, recordsOf}
 use Rattle.plan.specs.Held.{All, IsByte}
 use Rattle.plan.specs.declared.Plan.{Plan}
 use Rattle.board.specs.Boards.{fresh, sound, minute}
-use Rattle.board.specs.Replies.{finished, replyOf}
+use Rattle.board.specs.Stuck.{finished}
+use Rattle.replies.specs.Replies.{replyOf}
 use Rattle.board.specs.Events.{takeOf}
-use Rattle.board.specs.Verdicts.{verdictOf}
-use Rattle.board.specs.Numbers.{outcomeNumber}
+use Rattle.verdict.specs.Verdicts.{verdictOf}
+use Rattle.replies.specs.Numbers.{outcomeNumber}
 use Rattle.board.specs.declared.Board.{Board}
-use Rattle.board.specs.declared.Outcome.the-variants.{Stuck}
-use Rattle.board.specs.declared.Verdict.the-variants.{Kept}
+use Rattle.replies.specs.declared.Outcome.the-variants.{Stuck}
+use Rattle.verdict.specs.declared.Verdict.the-variants.{Kept}
 
 -- the board b is reached from the fresh one by k accepted events of the plan p, each any list of bytes; a refused event
 -- hands back the same board, so it need not be counted

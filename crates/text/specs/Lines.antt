@@ -3,18 +3,18 @@ use mathlib.Core.List.{List, [], _∷_}
 use Prim.Native.Nat.{ℕ}
 use Rattle.points.specs.Sets.{countOf}
 use Rattle.plan.specs.declared.Plan.{Plan}
-use Rattle.board.specs.Replies.{replyOf}
-use Rattle.board.specs.Verdicts.{verdictOf}
+use Rattle.replies.specs.Replies.{replyOf}
+use Rattle.verdict.specs.Verdicts.{verdictOf}
 use Rattle.board.specs.declared.Board.{Board}
 use Rattle.board.specs.declared.Taken.{Taken}
-use Rattle.board.specs.declared.Reply.{Reply}
-use Rattle.board.specs.declared.Place.{Place}
-use Rattle.board.specs.declared.State.{State}
-use Rattle.board.specs.declared.State.the-variants as state
-use Rattle.board.specs.declared.Outcome.{Outcome}
-use Rattle.board.specs.declared.Outcome.the-variants as outcome
-use Rattle.board.specs.declared.Verdict.{Verdict}
-use Rattle.board.specs.declared.Verdict.the-variants as verdict
+use Rattle.replies.specs.declared.Reply.{Reply}
+use Rattle.replies.specs.declared.Place.{Place}
+use Rattle.replies.specs.declared.State.{State}
+use Rattle.replies.specs.declared.State.the-variants as state
+use Rattle.replies.specs.declared.Outcome.{Outcome}
+use Rattle.replies.specs.declared.Outcome.the-variants as outcome
+use Rattle.verdict.specs.declared.Verdict.{Verdict}
+use Rattle.verdict.specs.declared.Verdict.the-variants as verdict
 use Rattle.vee.specs.declared.Answer.{Answer}
 use Rattle.vee.specs.declared.Answer.the-variants as answer
 use Rattle.text.specs.Words.{planWord, tailWord, endWord, keptWord, brokenWord, stuckWord, openWord, testWord, yesWord, cycleWord, pairWord, eventWord, boardWord, finishedWord, waitingWord, offersWord, pointWord, doneWord, watchedWord, shutWord, heldWord, offeredWord, refusedWord}

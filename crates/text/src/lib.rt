@@ -11,14 +11,14 @@ ghost use Rattle.text.specs.Words.{testWord, pairWord};
 ghost use Rattle.text.specs.Inside.{with, RoomFor};
 ghost use Rattle.text.specs.declared.Piece.the-variants.{Name, Number};
 use board::Board;
-use board::Outcome;
-use board::Place;
-use board::Reply;
-use board::State;
 use board::Taken;
-use board::Verdict;
 use plan::Plan;
+use replies::Outcome;
+use replies::Place;
+use replies::Reply;
+use replies::State;
 use vee::Answer;
+use verdict::Verdict;
 
 // Room for a line: five pieces of at most twenty characters, and what stands between them.
 pub const ROOM: usize = 128;
@@ -379,10 +379,10 @@ fn verdict_line(verdict: Verdict) -> Line
 pub fn end_line(plan: Plan, board: Board) -> Line
     ensures { λ l. ⌜ l ≡ endLine plan board ⌝ }
 {
-    let reply = board::reply_of(plan, board);
+    let reply = replies::reply_of(plan, board);
     let outcome = reply.outcome;
     match outcome {
-        Outcome::Finished => verdict_line(board::verdict_of(plan, board)),
+        Outcome::Finished => verdict_line(verdict::verdict_of(plan, board)),
         Outcome::Stuck => end_word(STUCK),
         Outcome::Waiting => end_word(OPEN),
         Outcome::Offers => end_word(OPEN),

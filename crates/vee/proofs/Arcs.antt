@@ -12,14 +12,14 @@ use lib.ListN.{length, getD}
 use borrow.Author.Tests.{ne-eqb, eq-eqb}
 use Rattle.plan.specs.Limits.{farthest}
 use Rattle.plan.specs.APlan.{linkTo, blank, gapOf}
-use Rattle.plan.specs.declared.Record.{Record}
-use Rattle.vee.specs.declared.table.Part.{Part}
-use Rattle.vee.specs.Tables.{bias}
-use Rattle.vee.specs.Steps.{takesOf}
-use Rattle.vee.specs.Distances.{Drawn}
-use Rattle.vee.specs.Sheet.{by, PartOf}
+use Rattle.records.specs.declared.Record.{Record}
+use Rattle.tables.specs.declared.table.Part.{Part}
+use Rattle.tables.specs.Tables.{bias}
+use Rattle.tables.specs.Steps.{takesOf, PartOf}
+use Rattle.tables.specs.Distances.{Drawn}
+use Rattle.rows.specs.Sheet.{by}
 use Rattle.vee.specs.TestOf.{Arc, arc, arcsOf, arcs, atOnce}
-use Rattle.vee.proofs.Offers.{Plus, old, new, same, OffersAt, plus-part, begun}
+use Rattle.tables.proofs.Offers.{Plus, old, new, same, OffersAt, plus-part, begun}
 use Rattle.vee.proofs.Edges.{Gives, ordinary-gives, there-gives, back-gives, wait-gives, Given}
 
 -- an edge is one of the list

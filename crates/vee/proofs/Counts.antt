@@ -8,8 +8,8 @@ use native.Mathlib.Numerals.{add-one}
 use Rattle.plan.specs.Limits.{farthest}
 use mir.Syntax.{w64}
 use mir.Val.{Fits}
-use Rattle.vee.specs.declared.sheet.Row.{Row}
-use Rattle.vee.specs.Sheet.{firstAt, secondAt, rowAt}
+use Rattle.rows.specs.declared.sheet.Row.{Row}
+use Rattle.rows.specs.Sheet.{firstAt, secondAt, rowAt}
 use Rattle.vee.specs.PlanTest.{many, mostProjections}
 use Rattle.vee.specs.Walked.{spansIn, RowsReady, CountedAs}
 

@@ -9,9 +9,9 @@ use lib.ListN.{length, getD}
 use borrow.Author.Tests.{eqb-true}
 use Rattle.plan.specs.Limits.{farthest}
 use Rattle.plan.specs.APlan.{Kind, point, link, ordinary, wait, is, howMany, watched, linkTo, blank, gapOf}
-use Rattle.plan.specs.declared.Record.{Record}
+use Rattle.records.specs.declared.Record.{Record}
 use Rattle.network.specs.Projection.Edge.{ordinary as e-ordinary, there as e-there, back as e-back, wait as e-wait}
-use Rattle.vee.specs.Sheet.{by}
+use Rattle.rows.specs.Sheet.{by}
 use Rattle.vee.specs.PlanTest.{Has, LinkIn, WaitIn, edgesOf}
 use Rattle.vee.proofs.Rules.{Valid}
 use Rattle.vee.proofs.Plans.{Whole, w-point, w-link, w-ordinary, w-wait, whole, Linked, linked, the-link, link-of, gap-up}

@@ -8,7 +8,7 @@ use lib.ListN.{getD}
 use Rattle.plan.specs.APlan.{planOf, points, howMany, some, firstThat}
 use Rattle.plan.specs.ReplyNumbers.{checkOf, firstBad, numberFor, lastKind}
 use Rattle.plan.specs.Haul.{aPoint, aLink, anOrdinary, aWait}
-use Rattle.plan.specs.declared.Record.{Record}
+use Rattle.records.specs.declared.Record.{Record}
 use Rattle.vee.specs.declared.Answer.{Answer}
 use Rattle.vee.specs.declared.Answer.the-variants.{Yes, Pair}
 use Rattle.vee.specs.PlanTest.{spans, spread, projections, unset, many}

@@ -9,35 +9,38 @@ use native.Mathlib.Numerals.{add-one}
 use native.Mathlib.Decide.{ℕ-discrete, decLt}
 use lib.Dec.{eqb, ltb}
 use lib.ListN.{getD, length-replicate}
-use borrow.Author.Tests.{eqb-true, eqb-false, ltb-true, ltb-false, leb-true, lt-ltb, le-leb}
+use borrow.Author.Tests.{eqb-true, eqb-false, ltb-true, ltb-false, leb-true, lt-ltb, le-leb, not-true, not-false}
 use Rattle.plan.specs.Choice.{if_then_else_}
 use Rattle.plan.specs.Limits.{mostPoints, farthest}
 use Rattle.plan.specs.APlan.{points, recordsOf}
 use Rattle.plan.specs.ReplyNumbers.{checkOf}
-use Rattle.plan.specs.declared.Record.{Record}
+use Rattle.records.specs.declared.Record.{Record}
 use Rattle.plan.specs.declared.Plan.{Plan}
-use Rattle.network.specs.Passing.{Cycle, Consistent}
+use Rattle.network.specs.Walks.{Negative}
+use Rattle.network.specs.Passing.{Cycle, Consistent, Fine, Bad}
 use Rattle.network.proofs.Laws.{not-both}
 use Rattle.vee.specs.declared.Answer.{Answer}
 use Rattle.vee.specs.declared.Answer.the-variants as answer
-use Rattle.vee.specs.declared.table.Part.{Part}
-use Rattle.vee.specs.declared.table.Part.the-variants.{All, Falling, Rising}
-use Rattle.vee.specs.declared.pairs.Pair.{Pair}
-use Rattle.vee.specs.declared.pairs.Pair.the-variants.{None, At}
-use Rattle.vee.specs.Tables.{Table, bias, none, half, side, Best, Passed, Closing, Closed, Within, Near}
-use Rattle.vee.specs.Tables.Closing.{first as at-first, next}
-use Rattle.vee.specs.Tables.Closed.{calm, below}
-use Rattle.vee.specs.Distances.{Inside, Drawn, Distances}
-use Rattle.vee.specs.Sheet.{by, PartOf}
-use Rattle.vee.specs.Pairs.{Reached, Met, apart, met, Missed, FirstPair, no-pair, pair as the-pair}
+use Rattle.tables.specs.declared.table.Part.{Part}
+use Rattle.tables.specs.declared.table.Part.the-variants.{All, Falling, Rising}
+use Rattle.projection.specs.declared.pairs.Pair.{Pair}
+use Rattle.projection.specs.declared.pairs.Pair.the-variants.{None, At}
+use Rattle.tables.specs.Tables.{Table, bias, none, half, side, Best, Passed, Closing, Closed, Within, Near}
+use Rattle.tables.specs.Tables.Closing.{first as at-first, next}
+use Rattle.tables.specs.Tables.Closed.{calm, below}
+use Rattle.tables.specs.Distances.{Inside, Drawn, Distances}
+use Rattle.rows.specs.Sheet.{by}
+use Rattle.projection.specs.Pairs.{FirstPair, no-pair, pair as the-pair}
 use Rattle.vee.specs.Walked.{JudgedOf, is-good, has-cycle, has-pair}
 use Rattle.vee.specs.PlanTest.{spans, projections, many, mostProjections, unset, edgesOf, Found, all-good, good, cycle, pair, Tested, refused, too-many, tested}
 use Rattle.vee.specs.TestOf.{Arc, arcs, listed, Rows, entry, rowsOf, atOnce, better, pass, passes, closed, firstFrom, first, among, hasCycle, isWay, misses, pairOf, answerOf, judgeOf, onward, testFrom, testOf}
-use Rattle.vee.proofs.Closing.{near, distances, cycle as cycle-of}
-use Rattle.vee.proofs.Offers.{same-table}
-use Rattle.vee.proofs.Judges.{part-cycle, all-consistent, good-by, pair-by}
-use Rattle.vee.proofs.Laws.{same-cycle, same-good, same-bad}
-use Rattle.vee.proofs.Rules.{Valid, both, clash, not-true, not-false}
+use Rattle.tables.proofs.Closing.{near, distances, cycle as cycle-of}
+use Rattle.tables.proofs.Offers.{same-table}
+use Rattle.tables.specs.Steps.{PartOf}
+use Rattle.projection.proofs.Judges.{part-cycle, all-consistent, all-edges, rising-edges, good-by, pair-by}
+use Rattle.vee.proofs.Meetings.{Reached, Met, apart, met, Missed, fine, bad}
+use Rattle.projection.proofs.Laws.{same-distances, same-cycle, same-good, same-bad}
+use Rattle.vee.proofs.Rules.{Valid, both, clash}
 use Rattle.vee.proofs.Plans.{gap-up}
 use Rattle.vee.proofs.Testing.{accepted-plan, nothing-lasts}
 use Rattle.vee.proofs.Yes.{Every, of-spans, in-bounds, few, a-link}
@@ -175,13 +178,13 @@ module _ (n : ℕ) (d g r : Rows) where
   abbrev inRow : ℕ → Bool
   inRow X = among n (misses n d g r X)
 
-  pair-is : FirstPair n (entry d) (entry g) (entry r) (pairOf n (misses n d g r))
-  pair-is = by-test (FirstPair n (entry d) (entry g) (entry r)) (ltb (first n inRow) n) (At (first n inRow) (first n (misses n d g r (first n inRow)))) None some none
+  pair-is : FirstPair n (Met n (entry d) (entry g) (entry r)) (Missed n (entry d) (entry g) (entry r)) (pairOf n (misses n d g r))
+  pair-is = by-test (FirstPair n (Met n (entry d) (entry g) (entry r)) (Missed n (entry d) (entry g) (entry r))) (ltb (first n inRow) n) (At (first n inRow) (first n (misses n d g r (first n inRow)))) None some none
     where
       row : (X Y : ℕ) → X < first n inRow → Y < n → Met n (entry d) (entry g) (entry r) X Y
       row X Y l h = is-met X Y (none-among n (misses n d g r X) (none-before n inRow X l) Y h)
 
-      some : ltb (first n inRow) n ≡ true → FirstPair n (entry d) (entry g) (entry r) (At (first n inRow) (first n (misses n d g r (first n inRow))))
+      some : ltb (first n inRow) n ≡ true → FirstPair n (Met n (entry d) (entry g) (entry r)) (Missed n (entry d) (entry g) (entry r)) (At (first n inRow) (first n (misses n d g r (first n inRow))))
       some e =
           let X = first n inRow in
           let Y = first n (misses n d g r X) in
@@ -189,7 +192,7 @@ module _ (n : ℕ) (d g r : Rows) where
           let m : Y < n = ltb-true Y n (first-so n inRow l) in
           the-pair l m row (λ Y′ h. is-met X Y′ (none-before n (misses n d g r X) Y′ h)) (is-missed X Y (first-so n (misses n d g r X) m))
 
-      none : ltb (first n inRow) n ≡ false → FirstPair n (entry d) (entry g) (entry r) None
+      none : ltb (first n inRow) n ≡ false → FirstPair n (Met n (entry d) (entry g) (entry r)) (Missed n (entry d) (entry g) (entry r)) None
       none e = no-pair (λ X Y h i. row X Y (omega (arith, ltb-false (first n inRow) n e)) i)
 
 -- ---- one projection
@@ -222,6 +225,16 @@ module _ (n : ℕ) (less : n ≤ side) (es : List Arc) (small : Small n es) wher
         go true e = absurd (not-both (In es) c (cycle-part e))
         go false e = calm-part e .0
 
+  falls-part : Consistent (In es) → Distances (Negative (In es)) n (entry (closed n Falling es))
+  falls-part c = same-distances (λ X Y u d e. record { edge = e .edge; below = ltb-true u d (e .taken) }) (λ X Y u d e. record { edge = e .edge; taken = lt-ltb u d (e .below) }) (distances-part Falling c)
+
+  module _ (c : Consistent (In es)) (X Y : ℕ) (hx : X < n) (hy : Y < n) where
+    fines : Met n (entry (closed n All es)) (entry (closed n Falling es)) (entry (closed n Rising es)) X Y → Fine (In es) X Y
+    fines = fine (In es) n inside _ _ _ (all-edges (distances-part All c)) (falls-part c) (rising-edges (distances-part Rising c)) X Y hx hy
+
+    bads : Missed n (entry (closed n All es)) (entry (closed n Falling es)) (entry (closed n Rising es)) X Y → Bad (In es) X Y
+    bads = bad (In es) n inside _ _ _ (all-edges (distances-part All c)) (falls-part c) (rising-edges (distances-part Rising c)) X Y hx hy
+
   judged : (i : ℕ) → JudgedOf (In es) i (judgeOf n i es)
   unfolding judgeOf
   judged i =
@@ -229,9 +242,9 @@ module _ (n : ℕ) (less : n ≤ side) (es : List Arc) (small : Small n es) wher
       (λ e. has-cycle (cycle-part All e))
       (λ e. found (all-consistent (calm-part All e .1)) _ (pair-is n (closed n All es) (closed n Falling es) (closed n Rising es)))
     where
-      found : Consistent (In es) → (x : Pair) → FirstPair n (entry (closed n All es)) (entry (closed n Falling es)) (entry (closed n Rising es)) x → JudgedOf (In es) i (answerOf i x)
-      found c None f = is-good (good-by (In es) n inside _ _ _ (distances-part All c) c (distances-part Falling c) (distances-part Rising c) f)
-      found c (At X Y) f = has-pair (pair-by (In es) n inside _ _ _ (distances-part All c) c (distances-part Falling c) (distances-part Rising c) f .2)
+      found : Consistent (In es) → (x : Pair) → FirstPair n (Met n (entry (closed n All es)) (entry (closed n Falling es)) (entry (closed n Rising es))) (Missed n (entry (closed n All es)) (entry (closed n Falling es)) (entry (closed n Rising es))) x → JudgedOf (In es) i (answerOf i x)
+      found c None f = is-good (good-by (In es) n inside c _ _ (fines c) (bads c) f)
+      found c (At X Y) f = has-pair (pair-by (In es) n inside c _ _ (fines c) (bads c) f)
 
 -- the same edges are judged the same
 same-judged : {E F : ℕ → ℕ → ℕ → ℕ → Type 0} {i : ℕ} {a : Answer} → ((X Y u d : ℕ) → E X Y u d → F X Y u d) → ((X Y u d : ℕ) → F X Y u d → E X Y u d) → JudgedOf E i a → JudgedOf F i a

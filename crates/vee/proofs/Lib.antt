@@ -1,17 +1,6 @@
--- The proofs of the plan test that belong to no one function: tables and their closing first, then the walk over the
--- projections, then what a yes means, then the test computed. Later crates cite `Yes`, `Single`,
--- `Plans`, `Numbered`, `Executable` and `Cases`.
-pub mod Closing
-pub mod Laws
-pub mod Rows
-pub mod Closings
-pub mod Begins
-pub mod Offers
-pub mod Lays
-pub mod Searches
-pub mod Judges
+-- The proofs of the plan test that belong to no one function: the walk over the
+-- projections, then what a yes means, then the test computed. Later crates cite `Yes`, `Single`, `Numbered` and `Executable`.
 pub mod Walks
-pub mod Layouts
 pub mod Counts
 pub mod Rules
 pub mod Plans
@@ -23,5 +12,6 @@ pub mod Yes
 pub mod Single
 pub mod Numbered
 pub mod Arcs
+pub mod Meetings
 pub mod Executable
 pub mod EndsOnly

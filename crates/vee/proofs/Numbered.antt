@@ -9,12 +9,13 @@ use Rattle.plan.specs.APlan.{recordsOf}
 use Rattle.plan.specs.declared.Plan.{Plan}
 use Rattle.network.specs.Passing.{Cycle, Good}
 use Rattle.vee.specs.declared.Answer.the-variants as answer
-use Rattle.vee.specs.Judging.{FirstBad}
+use Rattle.projection.specs.Judging.{FirstBad}
 use Rattle.vee.specs.PlanTest.{spans, projections, unset, many, edgesOf, Found, good, cycle, pair, Tested, tested}
 use Rattle.vee.proofs.Walks.{counted, as-many}
 use Rattle.vee.proofs.Yes.{Every, none, also, found-good}
 
-every-at : {A : Type 0} {P : A → Type 0} {xs : List A} (d : A) → Every P xs → (i : ℕ) → i < length xs → P (getD xs i d)
+-- What holds of each of a list holds at each place of it.
+pub every-at : {A : Type 0} {P : A → Type 0} {xs : List A} (d : A) → Every P xs → (i : ℕ) → i < length xs → P (getD xs i d)
 every-at d none i h = absurd (omega arith)
 every-at d (also p e) zero h = p
 every-at d (also p e) (suc i) h = every-at d e i (omega arith)

@@ -10,8 +10,8 @@ use lib.ListN.{length, getD}
 use borrow.Author.Tests.{leb-true, ne-eqb, eq-eqb}
 use Rattle.plan.specs.APlan.{point, link, is, one, howMany, blank}
 use Rattle.plan.specs.ReplyNumbers.{lastKind}
-use Rattle.plan.specs.declared.Record.{Record}
-use Rattle.vee.specs.Layout.{rowOf, RowIs}
+use Rattle.records.specs.declared.Record.{Record}
+use Rattle.rows.specs.Layout.{rowOf, RowIs}
 use Rattle.vee.specs.PlanTest.{spanOf, spans}
 use Rattle.vee.specs.Walked.{spanAt, spansIn}
 use Rattle.vee.proofs.Rules.{Valid, no-more, one-more}

@@ -12,7 +12,7 @@ use borrow.Author.Tests.{eqb-true, eq-eqb}
 use Rattle.plan.specs.Choice.{if_then_else_}
 use Rattle.plan.specs.Limits.{mostPoints, farthest}
 use Rattle.plan.specs.APlan.{point, link, is, endsAt, howMany, some, watched, firstThat, linkTo, blank, gapOf}
-use Rattle.plan.specs.declared.Record.{Record}
+use Rattle.records.specs.declared.Record.{Record}
 use Rattle.vee.proofs.Rules.{Valid, no-more, one-more, Sort, a-point, a-link, an-ordinary, a-wait, sort, each, both, clash}
 
 module _ (so : Record → Bool) where

@@ -8,49 +8,22 @@ use lib.Dec.{eqb, ltb, eqb·suc-zero}
 use lib.IntN.{ℤ, pos, negsuc, negℤ}
 use lib.Signed.{leZ, ltZ}
 use lib.ListN.{length, getD}
-use borrow.Author.Tests.{ltb-true, leb-true, eqb-true}
-use Rattle.plan.specs.Choice.{if_then_else_}
+use borrow.Author.Tests.{ltb-true, leb-true, eqb-true, not-true}
 use Rattle.plan.specs.Limits.{mostPoints, farthest}
-use Rattle.plan.specs.APlan.{Kind, point, link, ordinary, wait, unknown, kindOf, is, howMany, watched, linkTo, blank, gapOf}
-use Rattle.plan.specs.ReplyNumbers.{Before, after, isKnown, inOrder, roomFor, zeros, named, apart, joined, bounded, numberFor, numberOf, firstBad}
+use Rattle.plan.specs.APlan.{point, link, ordinary, wait, unknown, kindOf, is, howMany, watched, linkTo, blank, gapOf}
+use Rattle.plan.specs.ReplyNumbers.{after, numberOf, firstBad}
 use Rattle.plan.specs.Held.{plain}
-use Rattle.plan.specs.declared.Record.{Record}
-
--- a rule with its number, and the rules after it: the answer is 0 only where the rule is kept
-step : (kept : Bool) (n x : ℕ) → (if not kept then suc n else x) ≡ 0 → (kept ≡ true) × (x ≡ 0)
-step true n x e = (refl, e)
-step false n x e = absurd (omega arith)
+use Rattle.records.specs.declared.Record.{Record}
+use Rattle.rules.proofs.Passed.{Passed, passed}
 
 pub both : (a b : Bool) → a && b ≡ true → (a ≡ true) × (b ≡ true)
 both true b e = (refl, e)
 both false b e = absurd (let z : _≡_ {A = ℕ} 0 1 = cc in omega arith)
 
-pub record Kept (k : Kind) (b : Before) (r : Record) : Type 0 where
-  pub known : isKnown k ≡ true
-  pub order : inOrder b r ≡ true
-  pub room : roomFor b k ≡ true
-  pub nought : zeros k r 0 ≡ true
-  pub names : named b k r ≡ true
-  pub joins : joined b k r ≡ true
-  pub bounds : bounded b k r ≡ true
-
-pub kept : (k : Kind) (b : Before) (r : Record) → numberFor k b r 0 ≡ 0 → Kept k b r
-unfolding numberFor
-kept k b r e =
-    let s4 = step (isKnown k) 3 _ e in
-    let s5 = step (inOrder b r) 4 _ (s4 .1) in
-    let s6 = step (roomFor b k) 5 _ (s5 .1) in
-    let s7 = step (zeros k r 0) 6 _ (s6 .1) in
-    let s8 = step (named b k r) 7 _ (s7 .1) in
-    let s9 = step (apart k r) 8 _ (s8 .1) in
-    let s10 = step (joined b k r) 9 _ (s9 .1) in
-    let s11 = step (bounded b k r) 10 _ (s10 .1) in
-    record { known = s4 .0; order = s5 .0; room = s6 .0; nought = s7 .0; names = s8 .0; joins = s10 .0; bounds = s11 .0 }
-
 -- each record is kept after those before it
 pub data Valid : List Record → List Record → Type 0 where
   no-more : {pre : List Record} → Valid pre []
-  one-more : {pre : List Record} {r : Record} {rs : List Record} → Kept (kindOf (r .kind)) (after pre) r → Valid (pre ++ (r ∷ [])) rs → Valid pre (r ∷ rs)
+  one-more : {pre : List Record} {r : Record} {rs : List Record} → Passed (kindOf (r .kind)) (after pre) r 0 → Valid (pre ++ (r ∷ [])) rs → Valid pre (r ∷ rs)
 
 pub valid : (pre rs : List Record) → firstBad pre (map plain rs) .number ≡ 0 → Valid pre rs
 unfolding firstBad
@@ -58,7 +31,7 @@ valid pre [] e = no-more
 valid pre (r ∷ rs) e = go (numberOf (after pre) r 0) refl (λ h. valid (pre ++ (r ∷ [])) rs h)
   where
     go : (n : ℕ) → numberOf (after pre) r 0 ≡ n → (firstBad (pre ++ (r ∷ [])) (map plain rs) .number ≡ 0 → Valid (pre ++ (r ∷ [])) rs) → Valid pre (r ∷ rs)
-    go zero h rec = one-more (kept (kindOf (r .kind)) (after pre) r h) (rec (rw h at e))
+    go zero h rec = one-more (passed (kindOf (r .kind)) (after pre) r 0 h) (rec (rw h at e))
     go (suc n) h rec = absurd (let z : suc n ≡ 0 = rw (h, eqb·suc-zero n) at e in omega arith)
 
 -- what a record of each kind has passed, after the records pre
@@ -82,34 +55,26 @@ within m (pos a) e f = (leb-true a m f, omega arith)
 within zero (negsuc a) e f = clash (sym e)
 within (suc m) (negsuc a) e f = (omega arith, omega (arith, leb-true a m e))
 
-pub not-true : (b : Bool) → not b ≡ true → b ≡ false
-not-true true e = cc
-not-true false e = refl
-
-pub not-false : (b : Bool) → not b ≡ false → b ≡ true
-not-false true e = refl
-not-false false e = cc
-
 nought : (x : ℤ) → leZ (pos 1) x ≡ true → (w : ℕ) × (x ≡ pos w)
 nought (pos a) e = (a, refl)
 nought (negsuc a) e = clash (sym e)
 
-pub sort : (pre : List Record) (r : Record) → Kept (kindOf (r .kind)) (after pre) r → Sort pre r
+pub sort : (pre : List Record) (r : Record) → Passed (kindOf (r .kind)) (after pre) r 0 → Sort pre r
 sort pre r k = go1 (eqb (r .kind) 1) refl
   where
     go4 : (b : Bool) → eqb (r .kind) 4 ≡ b → eqb (r .kind) 1 ≡ false → eqb (r .kind) 2 ≡ false → eqb (r .kind) 3 ≡ false → Sort pre r
     go4 true e f1 f2 f3 =
-        let k′ : Kept wait (after pre) r = rw (f1, f2, f3, e) at k in
+        let k′ : Passed wait (after pre) r 0 = rw (f1, f2, f3, e) at k in
         let n = both (ltb (r .a) (howMany (is point) pre)) _ (k′ .names) in
         let j = both (watched pre (r .b)) _ (k′ .joins) in
         let b = both (leZ (pos 1) (r .first)) _ (k′ .bounds) in
         let w = nought (r .first) (b .0) in
         a-wait (eqb-true (r .kind) 4 e) (ltb-true _ _ (n .0)) (ltb-true _ _ (n .1)) (j .0) (w .1) (rw (w .1) at (b .1))
-    go4 false e f1 f2 f3 = let k′ : Kept unknown (after pre) r = rw (f1, f2, f3, e) at k in clash (sym (k′ .known))
+    go4 false e f1 f2 f3 = let k′ : Passed unknown (after pre) r 0 = rw (f1, f2, f3, e) at k in clash (sym (k′ .known))
 
     go3 : (b : Bool) → eqb (r .kind) 3 ≡ b → eqb (r .kind) 1 ≡ false → eqb (r .kind) 2 ≡ false → Sort pre r
     go3 true e f1 f2 =
-        let k′ : Kept ordinary (after pre) r = rw (f1, f2, e) at k in
+        let k′ : Passed ordinary (after pre) r 0 = rw (f1, f2, e) at k in
         let n = both (ltb (r .a) (howMany (is point) pre)) _ (k′ .names) in
         let b = both (leZ (negℤ (pos farthest)) (r .first)) _ (k′ .bounds) in
         let w = within farthest (r .first) (b .0) (b .1) in
@@ -118,7 +83,7 @@ sort pre r k = go1 (eqb (r .kind) 1) refl
 
     go2 : (b : Bool) → eqb (r .kind) 2 ≡ b → eqb (r .kind) 1 ≡ false → Sort pre r
     go2 true e f1 =
-        let k′ : Kept link (after pre) r = rw (f1, e) at k in
+        let k′ : Passed link (after pre) r 0 = rw (f1, e) at k in
         let n = both (ltb (r .a) (howMany (is point) pre)) _ (k′ .names) in
         let j = both (not (after pre .start (r .b))) _ (k′ .joins) in
         let j′ = both (not (watched pre (r .b))) _ (j .1) in
@@ -130,7 +95,7 @@ sort pre r k = go1 (eqb (r .kind) 1) refl
 
     go1 : (b : Bool) → eqb (r .kind) 1 ≡ b → Sort pre r
     go1 true e =
-        let k′ : Kept point (after pre) r = rw e at k in
+        let k′ : Passed point (after pre) r 0 = rw e at k in
         let z = both (eqb (r .b) 0) _ (k′ .nought) in
         a-point (eqb-true (r .kind) 1 e) (eqb-true (r .b) 0 (z .0)) (ltb-true (howMany (is point) pre) mostPoints (k′ .room))
     go1 false e = go2 (eqb (r .kind) 2) refl e

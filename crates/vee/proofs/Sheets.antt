@@ -10,11 +10,11 @@ use lib.ListN.{length, getD}
 use borrow.Author.Tests.{eqb-true, leb-true}
 use Rattle.plan.specs.Limits.{mostPoints, mostRecords, farthest}
 use Rattle.plan.specs.APlan.{point, link, wait, is, howMany, linkTo, blank, gapOf}
-use Rattle.plan.specs.declared.Record.{Record}
-use Rattle.vee.specs.Tables.{side}
-use Rattle.vee.specs.Sheet.{kindAt, fromAt, toAt, firstAt, secondAt, overAt, by, Laid, SheetEdge, SheetReady}
-use Rattle.vee.specs.Sheet.Laid.{ordinary as l-ordinary, there as l-there, back as l-back, wait as l-wait}
-use Rattle.vee.specs.Layout.{rowOf, RowIs, LaidOut}
+use Rattle.records.specs.declared.Record.{Record}
+use Rattle.tables.specs.Tables.{side}
+use Rattle.rows.specs.Sheet.{kindAt, fromAt, toAt, firstAt, secondAt, overAt, by, Laid, SheetEdge, SheetReady}
+use Rattle.rows.specs.Sheet.Laid.{ordinary as l-ordinary, there as l-there, back as l-back, wait as l-wait}
+use Rattle.rows.specs.Layout.{rowOf, RowIs, LaidOut}
 use Rattle.vee.specs.PlanTest.{edgesOf}
 use Rattle.vee.proofs.Rules.{Valid}
 use Rattle.vee.proofs.Plans.{Whole, w-point, w-link, w-ordinary, w-wait, whole, link-of, few-points, gap-up, gap-down}

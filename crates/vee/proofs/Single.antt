@@ -11,7 +11,7 @@ use Rattle.network.proofs.Laws.{not-both, not-fine}
 use Rattle.plan.specs.declared.Plan.{Plan}
 use Rattle.vee.specs.declared.Answer.{Answer}
 use Rattle.vee.specs.declared.Answer.the-variants as answer
-use Rattle.vee.specs.Judging.{Before, FirstBad}
+use Rattle.projection.specs.Judging.{Before, FirstBad}
 use Rattle.vee.specs.PlanTest.{Found, all-good, good, cycle, pair, Tested, refused, too-many, tested, answerNumber, testNumber}
 
 module _ (E : ℕ → ℕ → ℕ → ℕ → Type 0) where

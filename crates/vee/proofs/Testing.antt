@@ -7,24 +7,22 @@ use native.Mathlib.Omega.{arith}
 use native.Mathlib.Decide.{ℕ-discrete, decLt}
 use borrow.Author.Tests.{ne-eqb, ltb-false}
 use lib.Dec.{eqb, ltb}
-use lib.ListN.{length, getD, take, length-replicate, getD-replicate, length-take, List·getD-eq-default}
+use lib.ListN.{length, getD, length-replicate, getD-replicate, length-take, List·getD-eq-default}
 use Rattle.plan.specs.Limits.{mostPoints, mostRecords, farthest}
-use native.Mathlib.Numerals.{add-one}
-use lib.Seq.{getD-take, take-suc, take-all}
-use Rattle.plan.specs.APlan.{point, link, is, one, howMany, blank, recordsOf}
-use Rattle.plan.specs.declared.Record.{Record}
+use Rattle.plan.specs.APlan.{point, link, is, howMany, blank, recordsOf}
+use Rattle.records.specs.declared.Record.{Record}
 use Rattle.plan.specs.declared.Plan.{Plan}
 use Rattle.plan.specs.declared.Refusal.{Refusal}
 use Rattle.plan.specs.ReplyNumbers.{checkOf}
 use Rattle.vee.specs.declared.Answer.{Answer}
 use Rattle.vee.specs.declared.Answer.the-variants as answer
-use Rattle.vee.specs.Sheet.{by}
-use Rattle.vee.specs.Layout.{LaidOut}
-use Rattle.vee.proofs.Laws.{same-cycle, same-good, same-bad}
+use Rattle.rows.specs.Sheet.{by}
+use Rattle.rows.specs.Layout.{LaidOut}
+use Rattle.projection.proofs.Laws.{same-cycle, same-good, same-bad}
 use Rattle.vee.specs.PlanTest.{Span, spanOf, spans, projections, many, mostProjections, unset, Found, all-good, good, cycle, pair, edgesOf, Tested, refused, too-many, tested}
 use Rattle.vee.specs.Walked.{spanAt, spansIn, RowsReady, CountedAs, WalkReady, Walked}
 use Rattle.vee.proofs.Rules.{Valid, valid}
-use Rattle.vee.proofs.Plans.{Whole, w-point, w-link, w-ordinary, w-wait, whole, linked, gap-up, more}
+use Rattle.vee.proofs.Plans.{Whole, w-point, w-link, w-ordinary, w-wait, whole, linked, gap-up}
 use Rattle.vee.proofs.Sheets.{sheet-ready, to-sheet, from-sheet}
 use Rattle.vee.proofs.Orders.{Up, up-none, up-more, ups, from-start, span-here, span-not}
 
@@ -132,36 +130,6 @@ module _ (rs : List Record) (v : Valid [] rs) (s : List ℕ) (out : LaidOut rs s
 
   pub found : {r : Answer} → Walked s unset (length rs) (howMany (is point) rs + howMany (is link) rs) (howMany (is link) rs) 0 r → Found (edgesOf rs) 0 (projections (spans rs) unset) r
   found w = same-found (λ w. from-sheet rs v s out w) (λ w. to-sheet rs v s out w) (rw links-are at w)
-
-single : (so : Record → Bool) (r : Record) → howMany so (r ∷ []) ≡ one (so r)
-unfolding howMany
-single so r = omega arith
-
--- a loop that counts the links
-pub record Counting (p : Plan) (i n : ℕ) : Type 0 where
-  pub within : i ≤ p .count
-  pub so-far : n ≡ howMany (is link) (take i (recordsOf p))
-  pub few : n ≤ i
-
-module _ (p : Plan) where
-  pub none-counted : Counting p 0 0
-  unfolding howMany
-  none-counted = record { within = omega arith; so-far = refl; few = omega arith }
-
-  pub counted-one : {i n k : ℕ} → length (p .records) ≡ mostRecords → p .count ≤ mostRecords → Counting p i n → i < p .count → (k ≡ one (is link (getD (p .records) i blank))) × (k ≤ 1) → Counting p (i + 1) (n + k)
-  counted-one {i} {n} {k} long few c h e = record { within = omega arith; so-far = more-one; few = omega (arith, c .few) }
-    where
-      more-one : n + k ≡ howMany (is link) (take (i + 1) (recordsOf p))
-      more-one =
-          let a : i < length (recordsOf p) = omega (arith, length-take (p .count) (p .records)) in
-          let g : getD (recordsOf p) i blank ≡ getD (p .records) i blank = getD-take (p .count) (p .records) i blank h in
-          rw (add-one i, take-suc (recordsOf p) i blank a, more (is link) (take i (recordsOf p)) (getD (recordsOf p) i blank ∷ []), g) (last)
-        where
-          last : n + k ≡ howMany (is link) (take i (recordsOf p)) + howMany (is link) (getD (p .records) i blank ∷ [])
-          last = omega (arith, c .so-far, e .0, single (is link) (getD (p .records) i blank))
-
-  pub counted-all : {i n : ℕ} → length (p .records) ≡ mostRecords → p .count ≤ mostRecords → p .count ≤ i → Counting p i n → n ≡ howMany (is link) (recordsOf p)
-  counted-all {i} {n} long few h c = rw (take-all i (recordsOf p) (omega (arith, length-take (p .count) (p .records)))) at (c .so-far)
 
 -- a plan that is not refused
 pub accepted-plan : (p : Plan) → checkOf p .number ≡ 0 → (p .count ≤ mostRecords) × Valid [] (recordsOf p)

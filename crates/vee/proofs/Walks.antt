@@ -11,11 +11,13 @@ use lib.Seq.{getD-set-same, getD-set-other}
 use Rattle.plan.specs.Limits.{farthest}
 use Rattle.vee.specs.declared.Answer.{Answer}
 use Rattle.vee.specs.declared.Answer.the-variants as answer
-use Rattle.vee.specs.Tables.{side}
-use Rattle.vee.specs.declared.sheet.Row.{Row}
-use Rattle.vee.specs.Sheet.{SheetReady, SheetEdge, firstAt, secondAt, overAt, rowAt, by}
+use Rattle.tables.specs.Tables.{side}
+use Rattle.rows.specs.declared.sheet.Row.{Row}
+use Rattle.rows.specs.Sheet.{SheetReady, SheetEdge, firstAt, secondAt, overAt, rowAt, by}
 use Rattle.vee.specs.PlanTest.{Span, spread, projections, many, mostProjections, Found, all-good, good, cycle, pair}
-use Rattle.vee.specs.Walked.{JudgeReady, JudgedOf, is-good, has-cycle, has-pair, spanAt, spansIn, WalkReady, Walked}
+use Rattle.projection.specs.declared.Finding.{Finding}
+use Rattle.projection.specs.Findings.{FoundOf, is-good as found-good, has-cycle as found-cycle, has-pair as found-pair}
+use Rattle.vee.specs.Walked.{foundAs, JudgedOf, is-good, has-cycle, has-pair, spanAt, spansIn, WalkReady, Walked}
 
 module _ (E : List ℕ → ℕ → ℕ → ℕ → ℕ → Type 0) where
   -- what is found after ws, of which a was found: where all are good the test goes on, else that is the answer
@@ -73,13 +75,18 @@ unfolded s past zero h = absurd (omega arith)
 unfolded s past (suc k) h = let e : suc k - 1 ≡ k = omega arith in rw e refl
 
 -- no link ahead: the durations are one projection
-pub last-one : {s w : List ℕ} {m i : ℕ} {r : Answer} (past k : ℕ) → k ≡ 0 → JudgedOf (SheetEdge s w m) i r → Walked s w m past k i r
-unfolding spansIn projections
-last-one past k e j = rw e (only j)
+found-as : {E : ℕ → ℕ → ℕ → ℕ → Type 0} {i : ℕ} {f : Finding} → FoundOf E f → JudgedOf E i (foundAs i f)
+found-as (found-good g) = is-good g
+found-as (found-cycle c) = has-cycle c
+found-as (found-pair p) = has-pair p
 
-pub may-judge : {s w : List ℕ} {m n past i : ℕ} (k : ℕ) → k ≡ 0 → WalkReady s w m n past k i → JudgeReady s w m n i
+pub last-one : {s w : List ℕ} {m i : ℕ} {f : Finding} {r : Answer} (past k : ℕ) → k ≡ 0 → FoundOf (SheetEdge s w m) f → r ≡ foundAs i f → Walked s w m past k i r
+unfolding spansIn projections
+last-one past k e j er = rw (e, er) (only (found-as j))
+
+pub numbered : {s w : List ℕ} {m n past i : ℕ} (k : ℕ) → k ≡ 0 → WalkReady s w m n past k i → i < mostProjections
 unfolding spansIn many
-may-judge {s} {w} {m} {n} {past} {i} k e h = record { ready = h .ready; number = omega (arith, rw e at (h .room)) }
+numbered k e h = omega (arith, rw e at (h .room))
 
 -- the first link ahead, its durations from p on: with the number next, all that is left is the answer
 pub record Turning (s w : List ℕ) (m n past k i p next : ℕ) : Type 0 where

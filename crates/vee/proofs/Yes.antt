@@ -12,14 +12,14 @@ use borrow.Author.Tests.{eqb-true}
 use Rattle.plan.specs.Limits.{mostPoints}
 use Rattle.plan.specs.APlan.{point, is, howMany, linkTo, blank, gapOf, recordsOf}
 use Rattle.plan.specs.ReplyNumbers.{checkOf}
-use Rattle.plan.specs.declared.Record.{Record}
+use Rattle.records.specs.declared.Record.{Record}
 use Rattle.plan.specs.declared.Plan.{Plan}
 use Rattle.network.specs.Projection.{Net, InBounds, Edge, ordinary, there, back, wait}
 use Rattle.network.specs.Passing.{Good, Passes}
 use Rattle.vee.specs.declared.Answer.{Answer}
 use Rattle.vee.specs.declared.Answer.the-variants as answer
-use Rattle.vee.specs.Sheet.{by}
-use Rattle.vee.proofs.Laws.{same-good}
+use Rattle.rows.specs.Sheet.{by}
+use Rattle.projection.proofs.Laws.{same-good}
 use Rattle.vee.specs.PlanTest.{LinkIn, netOf, Span, spanOf, spans, spread, projections, unset, many, mostProjections, Found, all-good, good, edgesOf, Tested, tested}
 use Rattle.vee.proofs.Single.{one-answer}
 use Rattle.vee.proofs.Rules.{Valid}
@@ -46,6 +46,11 @@ module _ {A : Type 0} {P : A → Type 0} where
   join : {xs ys : List A} → Every P xs → Every P ys → Every P (xs ++ ys)
   join none f = f
   join (also p e) f = also p (join e f)
+
+  -- what follows from it holds of each too
+  pub following : {Q : A → Type 0} {xs : List A} → ((x : A) → P x → Q x) → Every P xs → Every Q xs
+  following h none = none
+  following h (also {x} p e) = also (h x p) (following h e)
 
 -- a yes says that each is good
 pub found-good : {E : List ℕ → ℕ → ℕ → ℕ → ℕ → Type 0} {i j : ℕ} {ws : List (List ℕ)} → Found E i ws (answer.Yes j) → Every (λ w. Good (E w)) ws
@@ -88,8 +93,8 @@ module _ {P : Span → Type 0} where
 
 -- durations that agree there have the same edges
 module _ (N : Net) where
-  record Agree (ω ν : ℕ → ℕ) : Type 0 where
-    same : {A x y C : ℕ} → N .Link A x y C → ω C ≡ ν C
+  pub record Agree (ω ν : ℕ → ℕ) : Type 0 where
+    pub same : {A x y C : ℕ} → N .Link A x y C → ω C ≡ ν C
 
   turned : {ω ν : ℕ → ℕ} → Agree ω ν → Agree ν ω
   turned a = record { same = λ l. sym (a .same l) }
@@ -176,14 +181,16 @@ module _ (rs : List Record) (v : Valid [] rs) where
           let m = b .within l in
           record { place = omega (arith, t .to, few); low = rw (t .least) (m .0); high = rw (t .most) (m .1) }
 
+  -- For any durations in bounds one of the list has the same at the links' C.
+  pub stands-for : {P : List ℕ → Type 0} → Every P (projections (spans rs) unset) → (ω : ℕ → ℕ) → InBounds (netOf rs) ω
+      → (w : List ℕ) × P w × Agree (netOf rs) (by w) ω
+  stands-for e ω b =
+      let s = stands ω (spans rs) unset (length-replicate {A = ℕ} mostPoints 0) (chosen ω b) e in
+      (s .who, s .holds, record { same = λ {A} {x} {y} {C} l. rw (← l .to) (at-link rs (s .at-links) l) })
+
   -- where all that are tested are good, so is each projection in bounds: one of the list stands for it
   all-pass : Every (λ w. Good (edgesOf rs w)) (projections (spans rs) unset) → Passes (netOf rs)
-  all-pass e = record { each = go }
-    where
-      go : (ω : ℕ → ℕ) → InBounds (netOf rs) ω → Good (Edge (netOf rs) ω)
-      go ω b =
-          let s = stands ω (spans rs) unset (length-replicate {A = ℕ} mostPoints 0) (chosen ω b) e in
-          agree-good (netOf rs) (record { same = λ {A} {x} {y} {C} l. rw (← l .to) (at-link rs (s .at-links) l) }) (s .holds)
+  all-pass e = record { each = λ ω b. let s = stands-for e ω b in agree-good (netOf rs) (s .2) (s .1) }
 
 -- A plan to which the test answers yes passes.
 pub yes-passes : {p : Plan} {j : ℕ} → Tested p (answer.Yes j) → Passes (netOf (recordsOf p))
@@ -249,12 +256,17 @@ module _ (rs : List Record) (v : Valid [] rs) where
       let t = a-link rs v i h k in
       record { place = omega (arith, t .to, few rs v); may = λ q low high. record { allowed = allows t q low high } })
 
+  -- Each of the list is in bounds.
+  pub each-in-bounds : Every (λ w. InBounds (netOf rs) (by w)) (projections (spans rs) unset)
+  each-in-bounds = in-bounds May (spans rs) unset (length-replicate {A = ℕ} mostPoints 0) able go
+    where
+      go : (w : List ℕ) → Every (λ l. May (l .over) (by w (l .over))) (spans rs) → ((C : ℕ) → May C (by unset C) → May C (by w C))
+          → InBounds (netOf rs) (by w)
+      go w e k = record { within = λ {A} {x} {y} {C} l. (rw (l .to) at (at-link rs e l)) .allowed l }
+
   -- where each projection in bounds is good, so are all that are tested
   passing-good : Passes (netOf rs) → Every (λ w. Good (edgesOf rs w)) (projections (spans rs) unset)
-  passing-good p = in-bounds May (spans rs) unset (length-replicate {A = ℕ} mostPoints 0) able go
-    where
-      go : (w : List ℕ) → Every (λ l. May (l .over) (by w (l .over))) (spans rs) → ((C : ℕ) → May C (by unset C) → May C (by w C)) → Good (edgesOf rs w)
-      go w e k = p .each (by w) (record { within = λ {A} {x} {y} {C} l. (rw (l .to) at (at-link rs e l)) .allowed l })
+  passing-good p = following (λ w b. p .each (by w) b) each-in-bounds
 
 -- A plan that is accepted, has no more projections than are tested, and passes, is answered yes, with their number.
 pub passes-yes : {p : Plan} → checkOf p .number ≡ 0 → many (spans (recordsOf p)) ≤ mostProjections → Passes (netOf (recordsOf p)) → Tested p (answer.Yes (many (spans (recordsOf p))))

@@ -12,14 +12,14 @@ use Rattle.plan.specs.Choice.{if_then_else_}
 use Rattle.plan.specs.Limits.{mostPoints}
 use Rattle.plan.specs.APlan.{Kind, link, ordinary, wait, is, blank, gapOf, recordsOf}
 use Rattle.plan.specs.ReplyNumbers.{checkOf}
-use Rattle.plan.specs.declared.Record.{Record}
+use Rattle.records.specs.declared.Record.{Record}
 use Rattle.plan.specs.declared.Plan.{Plan}
 use Rattle.network.specs.Projection.{Net, Edge}
 use Rattle.network.specs.Passing.{Cycle, Good}
 use Rattle.vee.specs.declared.Answer.{Answer}
 use Rattle.vee.specs.declared.Answer.the-variants as answer
-use Rattle.vee.specs.Sheet.{by}
-use Rattle.vee.specs.Judging.{FirstBad}
+use Rattle.rows.specs.Sheet.{by}
+use Rattle.projection.specs.Judging.{FirstBad}
 
 -- r is one of the records, of the kind k
 pub record Has (rs : List Record) (k : Kind) (r : Record) : Type 0 where

@@ -8,17 +8,17 @@ use lib.ListN.{getD}
 use Rattle.plan.specs.Choice.{if_then_else_}
 use Rattle.plan.specs.APlan.{link, ordinary, wait, is, points, linkTo, gapOf, recordsOf}
 use Rattle.plan.specs.ReplyNumbers.{checkOf}
-use Rattle.plan.specs.declared.Record.{Record}
+use Rattle.records.specs.declared.Record.{Record}
 use Rattle.plan.specs.declared.Plan.{Plan}
 use Rattle.vee.specs.declared.Answer.{Answer}
 use Rattle.vee.specs.declared.Answer.the-variants as answer
-use Rattle.vee.specs.declared.table.Part.{Part}
-use Rattle.vee.specs.declared.table.Part.the-variants.{All, Falling, Rising}
-use Rattle.vee.specs.declared.pairs.Pair.{Pair}
-use Rattle.vee.specs.declared.pairs.Pair.the-variants.{None, At}
-use Rattle.vee.specs.Tables.{Table, bias, none}
-use Rattle.vee.specs.Steps.{takesOf}
-use Rattle.vee.specs.Sheet.{by}
+use Rattle.tables.specs.declared.table.Part.{Part}
+use Rattle.tables.specs.declared.table.Part.the-variants.{All, Falling, Rising}
+use Rattle.projection.specs.declared.pairs.Pair.{Pair}
+use Rattle.projection.specs.declared.pairs.Pair.the-variants.{None, At}
+use Rattle.tables.specs.Tables.{Table, bias, none}
+use Rattle.tables.specs.Steps.{takesOf}
+use Rattle.rows.specs.Sheet.{by}
 use Rattle.vee.specs.PlanTest.{spans, projections, many, unset, mostProjections}
 
 -- an edge of a projection, of the weight up − down

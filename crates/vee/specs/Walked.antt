@@ -6,16 +6,20 @@ use Prim.Native.Nat.{ℕ, zero, suc, _+_, _-_, _<_, _≤_}
 use Rattle.network.specs.Passing.{Cycle, Good}
 use Rattle.vee.specs.declared.Answer.{Answer}
 use Rattle.vee.specs.declared.Answer.the-variants as answer
-use Rattle.vee.specs.Judging.{FirstBad}
+use Rattle.projection.specs.Judging.{FirstBad}
+use Rattle.projection.specs.declared.Finding.{Finding}
+use Rattle.projection.specs.declared.Finding.the-variants as finding
 use Rattle.plan.specs.Limits.{farthest, mostRecords}
-use Rattle.vee.specs.Sheet.{SheetReady, SheetEdge, firstAt, secondAt, overAt}
+use Rattle.rows.specs.Sheet.{SheetReady, SheetEdge, firstAt, secondAt, overAt}
 use Rattle.vee.specs.PlanTest.{Span, projections, many, mostProjections, Found}
 
-pub record JudgeReady (s w : List ℕ) (m n i : ℕ) : Type 0 where
-  pub ready : SheetReady s w m n
-  pub number : i < mostProjections
+-- the answer that the number of a projection and what is found of it make: where it is good, the next has the next number
+abbrev pub foundAs : ℕ → Finding → Answer
+foundAs i finding.Good = answer.Yes (i + 1)
+foundAs i finding.Cycle = answer.Cycle i
+foundAs i (finding.Pair X Y) = answer.Pair i X Y
 
--- what is found of one projection: it is good, and the next has the next number; it has a cycle, or a first bad pair
+-- the same of the edges E
 pub data JudgedOf (E : ℕ → ℕ → ℕ → ℕ → Type 0) (i : ℕ) : Answer → Type 0 where
   is-good : Good E → JudgedOf E i (answer.Yes (i + 1))
   has-cycle : Cycle E → JudgedOf E i (answer.Cycle i)

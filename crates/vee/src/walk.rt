@@ -2,49 +2,31 @@
 ghost use mathlib.Core.Path.{_≡_};
 ghost use Prim.Native.Nat.{_<_};
 ghost use lib.ListN.{set};
-ghost use Rattle.vee.specs.Sheet.{SheetEdge};
-ghost use Rattle.vee.specs.Tables.{side};
-ghost use Rattle.vee.specs.Walked.{JudgeReady, JudgedOf, WalkReady, Walked, RowsReady, CountedAs};
+ghost use Rattle.tables.specs.Tables.{side};
+ghost use Rattle.vee.specs.PlanTest.{unset, mostProjections};
+ghost use Rattle.vee.specs.Walked.{foundAs, WalkReady, Walked, RowsReady, CountedAs};
 use crate::Answer;
-use crate::pairs::Pair;
-use crate::pairs::first_pair;
-use crate::sheet::SHEET;
-use crate::sheet::fill;
-use crate::sheet::index;
-use crate::sheet::row_at;
-use crate::table::Part;
-use crate::table::ROOM;
-use crate::table::SIDE;
+use projection::Finding;
+use projection::judge;
+use rows::SHEET;
+use rows::index;
+use rows::row_at;
+use tables::NONE;
+use tables::ROOM;
+use tables::SIDE;
 
 // The most projections that are tested.
 pub(crate) const MOST_PROJECTIONS: u64 = 4096;
 
-// What is found of one projection, which has a number.
-fn judge(
-    number: u32,
-    durations: &[u64; SIDE],
-    sheet: &[u64; SHEET],
-    m: usize,
-    n: usize,
-    all: &mut [u64; ROOM],
-    falls: &mut [u64; ROOM],
-    rises: &mut [u64; ROOM],
-) -> Answer
-    requires { ⌜ JudgeReady (now sheet) (now durations) m n number ⌝ }
-    ensures { λ r. ⌜ JudgedOf (SheetEdge (now (sheet .entry)) (now (durations .entry)) m) number r ⌝ }
+// The answer that a projection's number and what is found of it make.
+fn answer_of(number: u32, found: Finding) -> Answer
+    requires { ⌜ number < mostProjections ⌝ }
+    ensures { λ r. ⌜ r ≡ foundAs number found ⌝ }
 {
-    if !fill(&mut *all, Part::All, sheet, durations, n, m) {
-        return Answer::Cycle(number);
-    }
-    if !fill(&mut *falls, Part::Falling, sheet, durations, n, m) {
-        return Answer::Cycle(number);
-    }
-    if !fill(&mut *rises, Part::Rising, sheet, durations, n, m) {
-        return Answer::Cycle(number);
-    }
-    match first_pair(&*all, &*falls, &*rises, n) {
-        Pair::None => Answer::Yes(number + 1),
-        Pair::At(x, y) => Answer::Pair(number, x, y),
+    match found {
+        Finding::Good => Answer::Yes(number + 1),
+        Finding::Cycle => Answer::Cycle(number),
+        Finding::Pair(x, y) => Answer::Pair(number, x, y),
     }
 }
 
@@ -60,7 +42,7 @@ fn lasting(durations: [u64; SIDE], c: usize, p: u64) -> [u64; SIDE]
 
 // What is found of the projections that have these durations for all links but the `ahead` still open, the rows of
 // which end before row `past`; the first of those projections is number `number`.
-pub(crate) fn walk(
+fn walk(
     ahead: usize,
     number: u32,
     durations: [u64; SIDE],
@@ -68,25 +50,15 @@ pub(crate) fn walk(
     m: usize,
     n: usize,
     past: usize,
-    all: &mut [u64; ROOM],
-    falls: &mut [u64; ROOM],
-    rises: &mut [u64; ROOM],
+    all: &mut [u32; ROOM],
+    ways: &mut [u32; ROOM],
 ) -> Answer
     requires { ⌜ WalkReady (now sheet) durations m n past ahead number ⌝ }
     ensures { λ r. ⌜ Walked (now (sheet .entry)) durations m past ahead number r ⌝ }
 {
     if ahead == 0 {
-        let judged = judge(
-            number,
-            &durations,
-            sheet,
-            m,
-            n,
-            &mut *all,
-            &mut *falls,
-            &mut *rises,
-        );
-        return judged;
+        let judged = judge(&durations, sheet, m, n, &mut *all, &mut *ways);
+        return answer_of(number, judged);
     }
     let row = row_at(sheet, past - ahead);
     let over = index(row.over);
@@ -104,8 +76,7 @@ pub(crate) fn walk(
             n,
             past,
             &mut *all,
-            &mut *falls,
-            &mut *rises,
+            &mut *ways,
         );
         let Answer::Yes(k) = found else {
             return found;
@@ -114,6 +85,23 @@ pub(crate) fn walk(
         p += 1;
     }
     Answer::Yes(next)
+}
+
+// What is found of all projections, with two tables for every one of them and a small frame for each link.
+pub(crate) fn walk_all(
+    links: usize,
+    sheet: &[u64; SHEET],
+    m: usize,
+    n: usize,
+    past: usize,
+) -> Answer
+    requires { ⌜ WalkReady (now sheet) unset m n past links 0 ⌝ }
+    ensures { λ r. ⌜ Walked (now (sheet .entry)) unset m past links 0 r ⌝ }
+{
+    let mut all = [NONE; ROOM];
+    let mut ways = [NONE; ROOM];
+    let durations = [0u64; SIDE];
+    walk(links, 0, durations, sheet, m, n, past, &mut all, &mut ways)
 }
 
 // How many projections the links of the `links` rows before row `past` have; once there are too many, some number that is

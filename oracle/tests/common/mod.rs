@@ -36,6 +36,13 @@ pub fn wait(v: u8, c: u8, w: i32) -> RawRecord {
     record(4, v, c, w, 0, 0)
 }
 
+/// So many ordinary records on 32 points, no two of them twins.
+pub fn ordinaries(count: usize) -> Vec<RawRecord> {
+    let pairs = (0..32).flat_map(|x| (0..32).map(move |y| (x, y)));
+    let pairs = pairs.filter(|(x, y)| x != y).take(count);
+    pairs.map(|(x, y)| ordinary(x, 7, y)).collect()
+}
+
 /// Points 0 up to `points`, then these records.
 pub fn records(points: u8, rest: &[RawRecord]) -> Vec<RawRecord> {
     let mut all: Vec<RawRecord> = (0..points).map(|number| point(number, 0)).collect();

@@ -1,7 +1,7 @@
 -- The tests over all points and over all records, read at one of them, and back; which points a list has. Assumes nothing.
 use mathlib.Core.Path.{_≡_, refl, sym, _∙_}
 use mathlib.Core.Logic.{_⊎_, inl, inr}
-use mathlib.Core.Bool.{Bool, true, false, not, cond, _&&_, _||_, true≢false, and-true, and-false, or-true, and-eq-true-iff}
+use mathlib.Core.Bool.{Bool, true, false, not, cond, _&&_, _||_, and-true, and-false, or-true}
 use mathlib.Core.List.{List, [], _∷_, _++_}
 use Prim.Native.Nat.{ℕ, zero, suc, _+_, _≤_, _<_, min, max}
 use native.Mathlib.Nat.{eq-or-lt-of-le}
@@ -14,38 +14,10 @@ use Rattle.points.proofs.Laws.{member-below, subset-member, member-subset}
 use Rattle.points.specs.Sets.{belowOf, subsetOf, member, membersOf, from, every, passing}
 use Rattle.plan.specs.Limits.{mostPoints}
 use Rattle.plan.specs.APlan.{blank}
-use Rattle.plan.specs.declared.Record.{Record}
-use Rattle.board.specs.Boards.{minute, each, largest}
+use Rattle.records.specs.declared.Record.{Record}
+use Rattle.history.specs.History.{minuteIn, each, largest}
+pub use Rattle.history.proofs.Tests.{clash, differ, both, and-both, either, unless, as-unless}
 use Rattle.board.specs.Windows.{greatest}
-use Rattle.board.specs.declared.Board.{Board}
-
--- ---- tests
-
-pub clash : {A : Type 0} → true ≡ false → A
-clash e = absurd (true≢false e)
-
--- what has two constructors equal has 0 and 1 equal
-pub differ : {A : Type 0} → _≡_ {A = ℕ} 0 1 → A
-differ e = absurd (omega arith)
-
-pub both : (a b : Bool) → (a && b) ≡ true → (a ≡ true) × (b ≡ true)
-both a b e = and-eq-true-iff a b .0 e
-
-pub and-both : (a b : Bool) → a ≡ true → b ≡ true → (a && b) ≡ true
-and-both a b e f = rw (e, f)
-
-pub either : (a b : Bool) → (a || b) ≡ true → (a ≡ true) ⊎ (b ≡ true)
-either true b e = inl refl
-either false b e = inr e
-
--- where a holds b does, as a test
-pub unless : (a b : Bool) → (not a || b) ≡ true → a ≡ true → b ≡ true
-unless true b e h = e
-unless false b e h = clash (sym h)
-
-pub as-unless : (a b : Bool) → (a ≡ true → b ≡ true) → (not a || b) ≡ true
-as-unless true b h = h refl
-as-unless false b h = refl
 
 -- ---- the points that a list has
 
@@ -154,27 +126,27 @@ greatest-le f n (r ∷ rs) h = omega (arith, h 0 (omega arith), greatest-le f n 
 
 -- ---- the largest minute
 
-module _ (b : Board) where
+module _ (minutes : List ℕ) where
   -- The largest minute of some points is no more than n just where each is no more.
-  pub largest-le : (n : ℕ) (ps : List ℕ) → ((q : ℕ) → has q ps ≡ true → minute b q ≤ n) → largest b ps ≤ n
+  pub largest-le : (n : ℕ) (ps : List ℕ) → ((q : ℕ) → has q ps ≡ true → minuteIn minutes q ≤ n) → largest minutes ps ≤ n
   unfolding largest
   largest-le n [] h = omega arith
   largest-le n (p ∷ ps) h = omega (arith, h p (rw (eq-eqb p p refl)), largest-le n ps (λ q k. h q (rw k (or-true (eqb q p)))))
 
-  pub largest-ge : (ps : List ℕ) (q : ℕ) → has q ps ≡ true → minute b q ≤ largest b ps
+  pub largest-ge : (ps : List ℕ) (q : ℕ) → has q ps ≡ true → minuteIn minutes q ≤ largest minutes ps
   unfolding largest
   largest-ge [] q h = clash (sym h)
   largest-ge (p ∷ ps) q h =
       elim (either (eqb q p) (has q ps) h) [ inl k ↦ rw (eqb-true q p k) (omega arith) | inr k ↦ omega (arith, largest-ge ps q k) ]
 
   -- It is 0, or the minute of one of them.
-  pub largest-at : (ps : List ℕ) → (largest b ps ≡ 0) ⊎ ((q : ℕ) × (has q ps ≡ true) × (minute b q ≡ largest b ps))
+  pub largest-at : (ps : List ℕ) → (largest minutes ps ≡ 0) ⊎ ((q : ℕ) × (has q ps ≡ true) × (minuteIn minutes q ≡ largest minutes ps))
   unfolding largest
   largest-at [] = inl refl
-  largest-at (p ∷ ps) = go (decLt (largest b ps) (minute b p)) (largest-at ps)
+  largest-at (p ∷ ps) = go (decLt (largest minutes ps) (minuteIn minutes p)) (largest-at ps)
     where
-      go : Dec (largest b ps < minute b p) → (largest b ps ≡ 0) ⊎ ((q : ℕ) × (has q ps ≡ true) × (minute b q ≡ largest b ps))
-          → (max (minute b p) (largest b ps) ≡ 0) ⊎ ((q : ℕ) × (has q (p ∷ ps) ≡ true) × (minute b q ≡ max (minute b p) (largest b ps)))
+      go : Dec (largest minutes ps < minuteIn minutes p) → (largest minutes ps ≡ 0) ⊎ ((q : ℕ) × (has q ps ≡ true) × (minuteIn minutes q ≡ largest minutes ps))
+          → (max (minuteIn minutes p) (largest minutes ps) ≡ 0) ⊎ ((q : ℕ) × (has q (p ∷ ps) ≡ true) × (minuteIn minutes q ≡ max (minuteIn minutes p) (largest minutes ps)))
       go (yes l) w = inr (p, rw (eq-eqb p p refl), omega arith)
       go (no l) (inl z) = inl (omega arith)
       go (no l) (inr w) = inr (w .0, rw (w .1) (or-true (eqb (w .0) p)), omega (arith, w .2))

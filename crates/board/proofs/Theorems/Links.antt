@@ -9,7 +9,7 @@ use lib.ListN.{length, getD}
 use borrow.Author.Tests.{eq-eqb}
 use Rattle.plan.specs.Limits.{mostPoints, farthest}
 use Rattle.plan.specs.APlan.{point, link, is, watched, endsAt, linkTo, blank}
-use Rattle.plan.specs.declared.Record.{Record}
+use Rattle.records.specs.declared.Record.{Record}
 use Rattle.plan.proofs.Accepted.{Accepted, getD-some, not-a}
 use Rattle.board.specs.Boards.{shortest, longest}
 use Rattle.board.specs.declared.Board.{Board}

@@ -10,11 +10,11 @@ use lib.ListN.{length, getD}
 use Rattle.plan.specs.Choice.{if_then_else_}
 use Rattle.plan.specs.Limits.{farthest}
 use Rattle.plan.specs.APlan.{point, ordinary, wait, is, linkTo, blank, gapOf}
-use Rattle.plan.specs.declared.Record.{Record}
+use Rattle.records.specs.declared.Record.{Record}
 use Rattle.plan.proofs.Accepted.{Accepted, not-a}
 use Rattle.board.specs.Boards.{isDone, minute, running}
 use Rattle.board.specs.Windows.{earliest, low, H}
-use Rattle.board.specs.Replies.{latest}
+use Rattle.board.specs.Stuck.{latest}
 use Rattle.board.specs.declared.Board.{Board}
 use Rattle.board.proofs.Theorems.Each.{both, greatest-le}
 use Rattle.board.proofs.Theorems.Soundness.{Sound}

@@ -12,7 +12,7 @@ use Rattle.points.specs.Sets.{membersOf, belowOf, subsetOf, countOf, from, ever
 use Rattle.points.proofs.Laws.{member-empty}
 use Rattle.plan.specs.Limits.{mostPoints, farthest}
 use Rattle.plan.specs.APlan.{link, is, points, blank}
-use Rattle.plan.specs.declared.Record.{Record}
+use Rattle.records.specs.declared.Record.{Record}
 use Rattle.board.specs.Boards.{fresh, isDone, minute, shortest, longest, running, each, largest, fits, inBounds, sound}
 use Rattle.board.specs.declared.Board.{Board}
 use Rattle.board.proofs.Theorems.Each.{clash, both, and-both, unless, as-unless, every-point, point-every, has-members, members-has, each-at, at-each, subset-below, below-subset, largest-le, largest-ge, largest-at}
@@ -72,12 +72,12 @@ module _ (b : Board) (l : Record) where
 
 module _ (rs : List Record) (b : Board) where
   abbrev clocked : Bool
-  clocked = eqb (b .clock) (largest b (membersOf (b .done)))
+  clocked = eqb (b .clock) (largest (b .minutes) (membersOf (b .done)))
 
   clock-means : clocked ≡ true → (b .clock ≡ 0) ⊎ ((p : ℕ) × (p < mostPoints) × (isDone b p ≡ true) × (minute b p ≡ b .clock))
   clock-means e =
-      let same : b .clock ≡ largest b (membersOf (b .done)) = eqb-true _ _ e in
-      elim (largest-at b (membersOf (b .done))) [
+      let same : b .clock ≡ largest (b .minutes) (membersOf (b .done)) = eqb-true _ _ e in
+      elim (largest-at (b .minutes) (membersOf (b .done))) [
         | inl z ↦ inl (same ∙ z)
         | inr w ↦ let m = members-has (b .done) (w .0) (w .1) in inr (w .0, m .0, m .1, w .2 ∙ sym same)
       ]
@@ -105,10 +105,10 @@ module _ (rs : List Record) (b : Board) where
     clock-from : clocked ≡ true
     clock-from =
         let ps = membersOf (b .done) in
-        let above : largest b ps ≤ b .clock = largest-le b (b .clock) ps (λ q k. w .past q (members-has (b .done) q k .0)) in
-        let same : b .clock ≡ largest b ps = elim (w .attained) [
+        let above : largest (b .minutes) ps ≤ b .clock = largest-le (b .minutes) (b .clock) ps (λ q k. w .past q (members-has (b .done) q k .0)) in
+        let same : b .clock ≡ largest (b .minutes) ps = elim (w .attained) [
           | inl z ↦ omega arith
-          | inr a ↦ omega (arith, a .3, largest-ge b ps (a .0) (has-members (b .done) (a .0) (a .1) ∙ a .2))
+          | inr a ↦ omega (arith, a .3, largest-ge (b .minutes) ps (a .0) (has-members (b .done) (a .0) (a .1) ∙ a .2))
         ] in
         eq-eqb _ _ same
 

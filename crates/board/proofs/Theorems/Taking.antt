@@ -16,13 +16,13 @@ use Rattle.plan.specs.Choice.{if_then_else_}
 use Rattle.plan.specs.Limits.{mostPoints, farthest, recordBytes}
 use Rattle.plan.specs.APlan.{link, is, points, watched, linkTo, blank, recordsOf}
 use Rattle.plan.specs.ReplyNumbers.{checkOf}
-use Rattle.plan.specs.declared.Record.{Record}
+use Rattle.records.specs.declared.Record.{Record}
 use Rattle.plan.specs.declared.Plan.{Plan}
 use Rattle.plan.proofs.Entries.{past}
 use Rattle.plan.proofs.Accepted.{Accepted, accepted-plan}
 use Rattle.board.specs.Boards.{isDone, minute, shortest, longest, running, each, sound}
 use Rattle.board.specs.Windows.{isOpen, foremans, low, someOpen}
-use Rattle.board.specs.Replies.{finished, stuck, latest}
+use Rattle.board.specs.Stuck.{finished, stuck, latest}
 use Rattle.board.specs.Events.{eventMinute, eventPoint, eventSet, noPoint, wellFormed, endsRunning, inTime, notLate, eventNumber, boardAfter}
 use Rattle.board.specs.declared.Board.{Board}
 use Rattle.board.proofs.Theorems.Each.{clash, both, either, unless, every-point, every-member, each-at, subset-below}

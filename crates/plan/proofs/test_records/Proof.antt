@@ -12,11 +12,11 @@ use Rattle.plan.proofs.test_records.Statement.{statement}
 use Rattle.plan.proofs.test_records.Tie as tie
 
 abbrev Inv-loop : tie.InvT-loop
-Inv-loop plan reserved count seen₀ ends₀ i₀ seen ends i =
-    (i ≤ count) × (count ≡ plan .count) × (count ≤ mostRecords) × (length (plan .records) ≡ mostRecords) × (length reserved ≡ mostRecords) × Sofar (entriesOf plan reserved) i seen ends
+Inv-loop plan reserved count seen₀ ends₀ seconds₀ i₀ seen ends seconds i =
+    (i ≤ count) × (count ≡ plan .count) × (count ≤ mostRecords) × (length (plan .records) ≡ mostRecords) × (length reserved ≡ mostRecords) × Sofar (entriesOf plan reserved) i seen ends seconds
 
 abbrev μ-loop : tie.MeasureT-loop
-μ-loop plan reserved count seen₀ ends₀ i₀ seen ends i = count - i
+μ-loop plan reserved count seen₀ ends₀ seconds₀ i₀ seen ends seconds i = count - i
 
 cast-count : tie.Need-cast-count Inv-loop μ-loop
 cast-count c = search needs
@@ -44,15 +44,24 @@ mul-end c = search needs
 array-copy-out-end : tie.Need-array-copy-out-end Inv-loop μ-loop
 array-copy-out-end c = search needs
 
+cast-a : tie.Need-cast-a Inv-loop μ-loop
+cast-a c = search needs
+
+mul-led : tie.Need-mul-led Inv-loop μ-loop
+mul-led c = search needs
+
+array-read-led : tie.Need-array-read-led Inv-loop μ-loop
+array-read-led c = search needs
+
 array-read-read-one : tie.Need-array-read-read-one Inv-loop μ-loop
 array-read-read-one c = search needs
 
 read-one-requires : tie.Need-read-one-requires Inv-loop μ-loop
 read-one-requires c κs =
-    let s = c .before .before .before .before .before .before .args in
-    let i = c .before .before .before .before .loop .inv in
+    let s = c .before .before .before .before .before .before .before .args in
+    let i = c .before .before .before .before .before .loop .inv in
     let n = count-entries (s .t1) (s .t2) (i .2) (i .3) (i .4) in
-    sofar-few _ _ _ _ (i .5) (omega (arith, n)) (omega (arith, n))
+    sofar-few _ _ _ _ _ (i .5) (omega (arith, n)) (omega (arith, n))
 
 enum-known-one : tie.Need-enum-known-one Inv-loop μ-loop
 enum-known-one c = search needs
@@ -63,18 +72,18 @@ enum-told c = search needs
 number-in-requires : tie.Need-number-in-requires Inv-loop μ-loop
 number-in-requires c κs = search needs
 
-cast-t28 : tie.Need-cast-t28 Inv-loop μ-loop
-cast-t28 c = search needs
+cast-t34 : tie.Need-cast-t34 Inv-loop μ-loop
+cast-t34 c = search needs
 
 returns : tie.Need-returns Inv-loop μ-loop
 returns c =
-    let s = c .before .before .before .before .before .before .before .before .before .before .args in
-    let i = c .before .before .before .before .before .before .before .before .loop .inv in
-    let h = c .before .before .before .before .before .before .before .loop-test .taken in
+    let s = c .before .before .before .before .before .before .before .before .before .before .before .args in
+    let i = c .before .before .before .before .before .before .before .before .before .loop .inv in
+    let h = c .before .before .before .before .before .before .before .before .loop-test .taken in
     let n = count-entries (s .t1) (s .t2) (i .2) (i .3) (i .4) in
-    let e = entry-at (s .t1) (s .t2) (i .2) (i .3) (i .4) (c .before .before .before .before .before .before .before .before .loop .i) h in
+    let e = entry-at (s .t1) (s .t2) (i .2) (i .3) (i .4) (c .before .before .before .before .before .before .before .before .before .loop .i) h in
     rw (c .number-in .ensures, c .before .enum-told .given .1)
-    (sofar-bad _ _ _ _ (i .5) (omega (arith, n)) _ e _ (sym (c .before .before .before .read-one .ensures) ∙ c .before .enum-told .given .1))
+    (sofar-bad _ _ _ _ _ (i .5) (omega (arith, n)) _ e _ (sym (c .before .before .before .read-one .ensures) ∙ c .before .enum-told .given .1))
 
 ending-after-requires : tie.Need-ending-after-requires Inv-loop μ-loop
 ending-after-requires c κs = search needs
@@ -85,6 +94,15 @@ mul-ends c = search needs
 array-set-from-ends : tie.Need-array-set-from-ends Inv-loop μ-loop
 array-set-from-ends c = search needs
 
+seconds-after-requires : tie.Need-seconds-after-requires Inv-loop μ-loop
+seconds-after-requires c κs = search needs
+
+mul-seconds : tie.Need-mul-seconds Inv-loop μ-loop
+mul-seconds c = search needs
+
+array-write-seconds : tie.Need-array-write-seconds Inv-loop μ-loop
+array-write-seconds c = search needs
+
 add-i : tie.Need-add-i Inv-loop μ-loop
 add-i c = search needs
 
@@ -93,18 +111,18 @@ loop-less c = search needs
 
 loop-again : tie.Need-loop-again Inv-loop μ-loop
 loop-again c =
-    let s = c .before .before .before .before .before .before .before .before .before .before .before .args in
-    let i = c .before .before .before .before .before .before .before .before .before .loop .inv in
-    let h = c .before .before .before .before .before .before .before .before .loop-test .taken in
+    let s = c .before .before .before .before .before .before .before .before .before .before .before .before .before .args in
+    let i = c .before .before .before .before .before .before .before .before .before .before .before .loop .inv in
+    let h = c .before .before .before .before .before .before .before .before .before .before .loop-test .taken in
     let n = count-entries (s .t1) (s .t2) (i .2) (i .3) (i .4) in
-    let e = entry-at (s .t1) (s .t2) (i .2) (i .3) (i .4) (c .before .before .before .before .before .before .before .before .before .loop .i) h in (
+    let e = entry-at (s .t1) (s .t2) (i .2) (i .3) (i .4) (c .before .before .before .before .before .before .before .before .before .before .before .loop .i) h in (
       omega arith,
       refl,
       i .2,
       i .3,
       i .4,
-      rw (c .ending-after .ensures)
-          (sofar-good _ _ _ _ (i .5) (omega (arith, n)) _ e _ (sym (c .before .before .before .before .read-one .ensures) ∙ c .before .before .one .given .1)),
+      rw (c .seconds-after .ensures, c .before .ending-after .ensures)
+          (sofar-good _ _ _ _ _ (i .5) (omega (arith, n)) _ e _ (sym (c .before .before .before .before .before .read-one .ensures) ∙ c .before .before .before .one .given .1)),
     )
 
 returns-2 : tie.Need-returns-2 Inv-loop μ-loop
@@ -112,7 +130,7 @@ returns-2 c =
     let s = c .before .before .before .args in
     let i = c .before .loop .inv in
     let n = count-entries (s .t1) (s .t2) (i .2) (i .3) (i .4) in
-    sofar-end _ _ _ _ (i .5) (omega (arith, n))
+    sofar-end _ _ _ _ _ (i .5) (omega (arith, n))
 
 pub test-records-spec : {M : Type 1} → statement M
 test-records-spec =
@@ -128,16 +146,22 @@ test-records-spec =
     cast-c
     mul-end
     array-copy-out-end
+    cast-a
+    mul-led
+    array-read-led
     array-read-read-one
     read-one-requires
     enum-known-one
     enum-told
     number-in-requires
-    cast-t28
+    cast-t34
     returns
     ending-after-requires
     mul-ends
     array-set-from-ends
+    seconds-after-requires
+    mul-seconds
+    array-write-seconds
     add-i
     loop-less
     loop-again

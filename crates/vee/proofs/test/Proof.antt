@@ -1,6 +1,6 @@
 -- `vee::test` meets its contract. Assumes nothing.
 use Rattle.vee.proofs.Testing.{refused-plan, few-records, rows-ready, too-many-plan, walk-ready, tested-plan}
-use Rattle.vee.specs.Sheet.{sheetRoom}
+use Rattle.rows.specs.Sheet.{sheetRoom}
 use lib.ListN.{length-map, length-replicate}
 use Prim.Native.Nat.{ℕ}
 use native.Mathlib.Omega.{arith}
@@ -25,7 +25,10 @@ cast-n : tie.Need-cast-n
 cast-n c = search needs
 
 links-of-requires : tie.Need-links-of-requires
-links-of-requires c κs = few-records _ (c .before .before .before .before .before .check .ensures) (c .before .before .before .if1 .left)
+links-of-requires c κs = search needs
+
+cast-links : tie.Need-cast-links
+cast-links c = search needs
 
 add-past : tie.Need-add-past
 add-past c = omega (arith, rows-ready _ (c .before .before .before .before .before .before .check .ensures) (c .before .before .before .before .if1 .left) (rw length-map at (c .before .before .before .before .before .before .before .good .0 .1 .1 .1 .0 .1 .0 .1)) (c .before .before .lay-out .ensures) (c .before .points-of .ensures) (c .links-of .ensures) .rows)
@@ -36,14 +39,14 @@ projections-requires c κs = rows-ready _ (c .before .before .before .before .be
 returns-2 : tie.Need-returns-2
 returns-2 c = test-numbered (too-many-plan _ (c .before .before .before .before .before .before .before .before .before .check .ensures) (c .before .before .before .before .before .before .before .if1 .left) (rw length-map at (c .before .before .before .before .before .before .before .before .before .before .good .0 .1 .1 .1 .0 .1 .0 .1)) (c .before .before .before .before .before .lay-out .ensures) (c .before .before .before .before .points-of .ensures) (c .before .before .before .links-of .ensures) (c .before .projections .ensures) (c .if2 .taken))
 
-cast-walk : tie.Need-cast-walk
-cast-walk c = search needs
+cast-walk-all : tie.Need-cast-walk-all
+cast-walk-all c = search needs
 
-walk-requires : tie.Need-walk-requires
-walk-requires c κs = walk-ready _ (c .before .before .before .before .before .before .before .before .before .before .before .before .before .before .check .ensures) (c .before .before .before .before .before .before .before .before .before .before .before .before .if1 .left) (rw length-map at (c .before .before .before .before .before .before .before .before .before .before .before .before .before .before .before .good .0 .1 .1 .1 .0 .1 .0 .1)) (c .before .before .before .before .before .before .before .before .before .before .lay-out .ensures) (c .before .before .before .before .before .before .before .before .before .points-of .ensures) (c .before .before .before .before .before .before .before .before .links-of .ensures) (c .before .before .before .before .before .before .projections .ensures) (c .before .before .before .before .before .if2 .left)
+walk-all-requires : tie.Need-walk-all-requires
+walk-all-requires c κs = walk-ready _ (c .before .before .before .before .before .before .before .before .before .before .before .check .ensures) (c .before .before .before .before .before .before .before .before .before .if1 .left) (rw length-map at (c .before .before .before .before .before .before .before .before .before .before .before .before .good .0 .1 .1 .1 .0 .1 .0 .1)) (c .before .before .before .before .before .before .before .lay-out .ensures) (c .before .before .before .before .before .before .points-of .ensures) (c .before .before .before .before .before .links-of .ensures) (c .before .before .before .projections .ensures) (c .before .before .if2 .left)
 
 returns-3 : tie.Need-returns-3
-returns-3 c = test-numbered (tested-plan _ (c .before .before .before .before .before .before .before .before .before .before .before .before .before .before .before .check .ensures) (c .before .before .before .before .before .before .before .before .before .before .before .before .before .if1 .left) (rw length-map at (c .before .before .before .before .before .before .before .before .before .before .before .before .before .before .before .before .good .0 .1 .1 .1 .0 .1 .0 .1)) (c .before .before .before .before .before .before .before .before .before .before .before .lay-out .ensures) (c .before .before .before .before .before .before .before .before .before .before .points-of .ensures) (c .before .before .before .before .before .before .before .before .before .links-of .ensures) (c .before .before .before .before .before .before .before .projections .ensures) (c .before .before .before .before .before .before .if2 .left) (c .walk .ensures))
+returns-3 c = test-numbered (tested-plan _ (c .before .before .before .before .before .before .before .before .before .before .before .before .check .ensures) (c .before .before .before .before .before .before .before .before .before .before .if1 .left) (rw length-map at (c .before .before .before .before .before .before .before .before .before .before .before .before .before .good .0 .1 .1 .1 .0 .1 .0 .1)) (c .before .before .before .before .before .before .before .before .lay-out .ensures) (c .before .before .before .before .before .before .before .points-of .ensures) (c .before .before .before .before .before .before .links-of .ensures) (c .before .before .before .before .projections .ensures) (c .before .before .before .if2 .left) (c .walk-all .ensures))
 
 pub test-spec : {M : Type 1} → statement M
 test-spec =
@@ -55,9 +58,10 @@ test-spec =
     points-of-requires
     cast-n
     links-of-requires
+    cast-links
     add-past
     projections-requires
     returns-2
-    cast-walk
-    walk-requires
+    cast-walk-all
+    walk-all-requires
     returns-3)

@@ -18,8 +18,8 @@ all-fit-requires c κs = search needs
 last-done-requires : tie.Need-last-done-requires
 last-done-requires c κs = search needs
 
-all-in-bounds-requires : tie.Need-all-in-bounds-requires
-all-in-bounds-requires c κs = search needs
+every-record-requires : tie.Need-every-record-requires
+every-record-requires c κs = search needs
 
 count-requires : tie.Need-count-requires
 count-requires c κs = search needs
@@ -33,7 +33,14 @@ mul-result c =
 returns : tie.Need-returns
 unfolding sound
 returns c =
-    rw (c .before .count .ensures, c .before .before .all-in-bounds .ensures, c .before .before .before .before .last-done .ensures, c .before .before .before .before .before .all-fit .ensures, c .before .before .before .before .before .before .subset .ensures, c .before .before .before .before .before .before .before .all-points .ensures)
+    rw (
+      c .count .ensures,
+      c .before .every-record .ensures,
+      c .before .before .last-done .ensures,
+      c .before .before .before .all-fit .ensures,
+      c .before .before .before .before .subset .ensures,
+      c .before .before .before .before .before .all-points .ensures,
+    )
 
 pub is-sound-spec : {M : Type 1} → statement M
 is-sound-spec =
@@ -43,7 +50,7 @@ is-sound-spec =
     subset-requires
     all-fit-requires
     last-done-requires
-    all-in-bounds-requires
+    every-record-requires
     count-requires
     mul-result
     returns)

@@ -1,0 +1,61 @@
+-- `board::event::take_next` meets its contract. Assumes nothing.
+use native.Mathlib.Omega.{arith}
+use borrow.Author.Needs.{needs}
+use mathlib.Core.Path.{ap, _∙_}
+use Prim.Native.Nat.{ℕ}
+use lib.ListN.{length-map}
+use Rattle.plan.specs.APlan.{points, recordsOf}
+use Rattle.events.proofs.Forming.{formed-length}
+use Rattle.board.specs.Events.{taken}
+use Rattle.board.proofs.Taking.{taken-formed, next-refused, next-taken}
+use Rattle.board.proofs.Theorems.Soundness.{HeldBoard}
+use Rattle.board.proofs.Streaming.{next-sound}
+use Rattle.board.proofs.event.take_next.Statement.{statement}
+use Rattle.board.proofs.event.take_next.Tie as tie
+
+event-number-requires : tie.Need-event-number-requires
+event-number-requires c κs = search needs
+
+answer-requires : tie.Need-answer-requires
+answer-requires c κs = search needs
+
+returns : tie.Need-returns
+returns c =
+    let a = c .before .before .before .before .args in
+    let n = rw (c .before .before .event-number .ensures) at (c .before .if1 .taken) in
+    let e = c .answer .ensures ∙ ap (λ (k : ℕ). taken k 0 (a .board)) (c .before .before .event-number .ensures) ∙ next-refused (recordsOf (a .plan)) (a .board) (a .event .now) n in
+    (e, rw (c .answer .ensures) (c .before .before .before .before .pre .sound))
+
+event-in-requires : tie.Need-event-in-requires
+event-in-requires c κs =
+    let a = c .before .before .before .args in
+    let n = rw (c .before .event-number .ensures) at (c .if1 .left) in
+    omega (arith, formed-length (points (recordsOf (a .plan))) (a .event .now) (taken-formed (recordsOf (a .plan)) (a .board) (a .event .now) n))
+
+after-requires : tie.Need-after-requires
+after-requires c κs = search needs
+
+answer-requires-2 : tie.Need-answer-requires-2
+answer-requires-2 c κs = search needs
+
+returns-2 : tie.Need-returns-2
+returns-2 c =
+    let a = c .before .before .before .before .before .before .args in
+    let n = rw (c .before .before .before .before .event-number .ensures) at (c .before .before .before .if1 .left) in
+    let t = rw (c .before .after .ensures, c .before .before .event-in .ensures .0) at (c .answer2 .ensures) in
+    let e = t ∙ next-taken (recordsOf (a .plan)) (a .board) (a .event .now) n in
+    let q = c .before .before .before .before .before .before in
+    let held : HeldBoard (a .board) = record { room = rw length-map at (q .good .1 .0 .1 .1 .1 .1 .0 .1 .0 .1); done = omega (arith, q .good .1 .0 .1 .1 .1 .0 .1) } in
+    (e, rw e (next-sound (a .plan) (q .pre .accepted) (a .board) held (q .pre .sound) (a .event .now) (c .before .before .event-in .ensures .1)))
+
+pub take-next-spec : {M : Type 1} → statement M
+take-next-spec =
+    tie.close
+    (tie.spec
+    event-number-requires
+    answer-requires
+    returns
+    event-in-requires
+    after-requires
+    answer-requires-2
+    returns-2)

@@ -1,0 +1,125 @@
+// Taking an event: the numbers 21 to 30 in order, and the board after it. An event's bytes may be any, of any length.
+ghost use mathlib.Core.Path.{_≡_};
+ghost use mathlib.Core.List.{[], _∷_};
+ghost use mathlib.Core.Bool.{true};
+ghost use Rattle.points.specs.Sets.{membersOf};
+ghost use Rattle.plan.specs.APlan.{recordsOf};
+ghost use Rattle.board.specs.Boards.{sound};
+ghost use Rattle.board.specs.Events.{markAll, eventNumber, taken, takeOf};
+ghost use Rattle.board.specs.Inside.{clockAt, afterEvent, takenNext};
+ghost use Rattle.board.specs.InsideReplies.{Ready};
+use crate::Board;
+use crate::Taken;
+use crate::UNSOUND;
+use crate::sound::is_sound;
+use events::Event;
+use events::NO_POINT;
+use events::event_in;
+use links::Links;
+use links::links_of;
+use plan::ACCEPTED;
+use plan::Plan;
+use plan::check;
+use points::MOST;
+use points::first;
+use points::with;
+use points::without;
+
+// The points of a set done at the minute t, which is the clock.
+fn mark_set(board: Board, set: u32, t: u32) -> Board
+    ensures { λ b. ⌜ b ≡ markAll t (membersOf set) (clockAt t board) ⌝ }
+{
+    let mut minutes = board.minutes;
+    let mut done = board.done;
+    let mut rest = set;
+    while rest != 0 {
+        let p = first(rest);
+        let place = p as usize;
+        minutes[place] = t;
+        done = with(done, p);
+        rest = without(rest, p);
+    }
+    Board {
+        clock: t,
+        done: done,
+        minutes: minutes,
+    }
+}
+
+// A point done at the minute t. A point past the last place changes nothing.
+fn mark(board: Board, p: u8, t: u32) -> Board
+    ensures { λ b. ⌜ b ≡ markAll t (p ∷ []) board ⌝ }
+{
+    if p < MOST {
+        let mut minutes = board.minutes;
+        let place = p as usize;
+        minutes[place] = t;
+        return Board {
+            clock: board.clock,
+            done: with(board.done, p),
+            minutes: minutes,
+        };
+    }
+    board
+}
+
+// The board after an event.
+fn after(board: Board, e: Event) -> Board
+    ensures { λ b. ⌜ b ≡ afterEvent board e ⌝ }
+{
+    let next = mark_set(board, e.set, e.minute);
+    if e.point == NO_POINT {
+        next
+    } else {
+        mark(next, e.point, e.minute)
+    }
+}
+
+// The number of an event on a sound board of an accepted plan. Windows are those of the board before the event.
+fn event_number(plan: Plan, board: Board, links: Links, event: &[u8]) -> u32
+    requires { ⌜ Ready plan board links ⌝ }
+    ensures { λ n. ⌜ n ≡ eventNumber (recordsOf plan) board (now (event .entry)) ⌝ }
+{
+    let minutes = board.minutes;
+    windows::event_number(plan, links, board.clock, board.done, minutes, event)
+}
+
+pub(crate) fn answer(number: u32, place: u32, board: Board) -> Taken
+    ensures { λ t. ⌜ t ≡ taken number place board ⌝ }
+{
+    Taken {
+        number: number,
+        place: place,
+        board: board,
+    }
+}
+
+// One event on a sound board of an accepted plan.
+pub(crate) fn take_next(plan: Plan, board: Board, links: Links, event: &[u8]) -> Taken
+    requires { ⌜ Ready plan board links ⌝ }
+    ensures { λ t. ⌜ (t ≡ takenNext (recordsOf plan) board (now (event .entry))) × (sound (recordsOf plan) (t .board) ≡ true) ⌝ }
+{
+    let number = event_number(plan, board, links, event);
+    if number != ACCEPTED {
+        return answer(number, 0, board);
+    }
+    let e = event_in(event);
+    answer(ACCEPTED, 0, after(board, e))
+}
+
+impl Board {
+    // Takes an event: the next board, or a number and the same board.
+    pub fn take(self, plan: Plan, event: &[u8]) -> Taken
+        ensures { λ t. ⌜ t ≡ takeOf plan self (now (event .entry)) ⌝ }
+    {
+        let found = check(plan);
+        if found.number != ACCEPTED {
+            return answer(found.number, found.place, self);
+        }
+        if !is_sound(plan, self) {
+            return answer(UNSOUND, 0, self);
+        }
+        let links = links_of(plan);
+        take_next(plan, self, links, event)
+    }
+}

@@ -1,0 +1,84 @@
+// The questions that are asked of every record of a plan, and the one loop that asks them. The answers are from the minutes
+// of the record's own two points, a and c: nothing of the plan or of the minutes is passed on.
+ghost use mathlib.Core.Path.{_≡_};
+ghost use Rattle.plan.specs.APlan.{recordsOf};
+ghost use Rattle.history.specs.History.{runs, inBoundsFrom, notLateFrom, each};
+ghost use Rattle.history.specs.Inside.{askedFrom, asked};
+use crate::ROOM;
+use crate::minute_at;
+use crate::used;
+use crate::wide;
+use plan::LINK;
+use plan::Plan;
+use plan::Record;
+use plan::split;
+use points::has;
+
+// A done link is in its bounds and a running one has not run out; no link is running; no running link but those of a set
+// has run out before a minute.
+pub enum Ask {
+    InBounds,
+    NotRunning,
+    NotLate(u32, u32),
+}
+
+// A link is running: A done, C not.
+fn is_running(done: u32, r: Record) -> bool
+    ensures { λ t. ⌜ t ≡ runs done r ⌝ }
+{
+    (r.kind == LINK) & (has(done, r.a) & !has(done, r.b))
+}
+
+// Where a link's C is done, A is done and the duration is in bounds; a running link has A + y ≥ clock.
+fn in_bounds(clock: u32, done: u32, a: u32, c: u32, r: Record) -> bool
+    ensures { λ t. ⌜ t ≡ inBoundsFrom clock done a c r ⌝ }
+{
+    if r.kind != LINK {
+        return true;
+    }
+    let started = has(done, r.a);
+    let ended = has(done, r.b);
+    let x = split(r.first);
+    let y = split(r.second);
+    let least = wide(a) + wide(x.up);
+    let most = wide(a) + wide(y.up);
+    let to = wide(c);
+    (!ended | (started & ((least <= to) & (to <= most))))
+        & (!(started & !ended) | (wide(clock) <= most))
+}
+
+// 27 is not given for one record.
+fn not_late(done: u32, t: u32, set: u32, a: u32, r: Record) -> bool
+    ensures { λ x. ⌜ x ≡ notLateFrom done t set a r ⌝ }
+{
+    let y = split(r.second);
+    !is_running(done, r) | (has(set, r.b) | (wide(t) <= wide(a) + wide(y.up)))
+}
+
+fn is_so(clock: u32, done: u32, a: u32, c: u32, ask: Ask, r: Record) -> bool
+    ensures { λ t. ⌜ t ≡ askedFrom clock done a c ask r ⌝ }
+{
+    match ask {
+        Ask::InBounds => in_bounds(clock, done, a, c, r),
+        Ask::NotRunning => !is_running(done, r),
+        Ask::NotLate(t, set) => not_late(done, t, set, a, r),
+    }
+}
+
+// Whether it is so of every record.
+pub fn every_record(plan: Plan, clock: u32, done: u32, minutes: [u32; ROOM], ask: Ask) -> bool
+    ensures { λ t. ⌜ t ≡ each (asked clock done minutes ask) (recordsOf plan) ⌝ }
+{
+    let n = used(plan.count);
+    let mut i: usize = 0;
+    while i < n {
+        let r = plan.records[i];
+        let a = minute_at(minutes, r.a);
+        let c = minute_at(minutes, r.b);
+        if !is_so(clock, done, a, c, ask, r) {
+            return false;
+        }
+        i += 1;
+    }
+    true
+}

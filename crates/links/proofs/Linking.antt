@@ -1,0 +1,130 @@
+-- The loop that finds a plan's links: it begins with none, each record keeps what it has found, and at the end it has
+-- those of the plan. And which links are running. Assumes nothing.
+use mathlib.Core.Path.{_≡_, refl, sym, _∙_}
+use mathlib.Core.Bool.{Bool, true, false, not, _&&_, _||_, true≢false}
+use mathlib.Core.List.{List, [], _∷_, _++_}
+use Prim.Native.Nat.{ℕ, _+_, _%_, _^_, _<_}
+use native.Mathlib.Omega.{arith}
+use native.Mathlib.Decide.{ℕ-discrete}
+use lib.Dec.{eqb, ltb, lit<}
+use lib.ListN.{length, take, getD, set, length-set, replicate, length-replicate, getD-replicate}
+use lib.Seq.{set-getD, getD-set-same, getD-set-other}
+use borrow.Author.Tests.{eqb-true, eq-eqb, ne-eqb, lt-ltb, ltb-true, ltb-false}
+use Rattle.points.specs.Sets.{member, withOf}
+use Rattle.points.proofs.Laws.{member-empty, member-with, with-fits, with-past}
+use Rattle.plan.specs.Choice.{if_then_else_}
+use Rattle.plan.specs.Limits.{mostPoints}
+use Rattle.plan.specs.APlan.{link, is, some, endsAt, watched, firstThat, linkTo, blank}
+use Rattle.records.specs.declared.Record.{Record}
+use Rattle.links.specs.Inside.{endIn, noEnd, endOf, watchedAfter, endAfter, LinksOf}
+use Rattle.links.specs.declared.End.{End}
+use Rattle.links.specs.declared.Links.{Links}
+use Rattle.plan.proofs.Accepted.{first-found}
+use Rattle.history.specs.History.{runs}
+use Rattle.history.proofs.Tests.{both}
+use Rattle.plan.proofs.Records.{some-snoc, first-not, first-old, first-so, one-more}
+
+abbrev pub linksAs : ℕ → List End → Links
+linksAs s ends = record { watched = s; ends = ends }
+
+pub links-none : LinksOf [] (linksAs 0 (replicate mostPoints noEnd))
+unfolding some firstThat
+links-none =
+    record {
+      long = length-replicate mostPoints noEnd;
+      fits = lit< tt;
+      watches = λ p h. member-empty p;
+      ends = λ p h. getD-replicate mostPoints p noEnd noEnd h;
+    }
+
+-- the watched points
+module _ (s : ℕ) (r : Record) (p : ℕ) (h : p < mostPoints) (old : Bool) (e : member s p ≡ old) where
+  watched-by : (l b : Bool) → is link r ≡ l → ltb (r .b) mostPoints ≡ b → member (if l then withOf s (r .b) else s) p ≡ (l && eqb p (r .b) || old)
+  watched-by false b k f = e
+  watched-by true true k f = rw (member-with s (r .b) p (ltb-true (r .b) mostPoints f), e)
+  watched-by true false k f =
+      let past = ltb-false (r .b) mostPoints f in
+      rw (with-past s (r .b) past, ne-eqb p (r .b) (λ q. omega arith)) e
+
+fits-by : (l : Bool) (s q : ℕ) → s < 2 ^ 32 → (if l then withOf s q else s) < 2 ^ 32
+fits-by true s q f = with-fits s q f
+fits-by false s q f = f
+
+-- the link to each
+module _ (rs : List Record) (s : ℕ) (ends : List End) (w : LinksOf rs (linksAs s ends)) (r : Record) (p : ℕ) (h : p < mostPoints) where
+  abbrev place : ℕ
+  place = r .b % mostPoints
+
+  abbrev fresh : Bool
+  fresh = is link r && (ltb (r .b) mostPoints && not (member s (r .b)))
+
+  abbrev ends-with : Bool → List End
+  ends-with b = set ends place (if b then endIn r else getD ends place noEnd)
+
+  -- what a fresh link is
+  parts : (a b c : Bool) → (a && (b && not c)) ≡ true → (a ≡ true) × (b ≡ true) × (c ≡ false)
+  parts true true false e = (refl, refl, refl)
+  parts true true true e = absurd (true≢false (sym e))
+  parts true false c e = absurd (true≢false (sym e))
+  parts false b c e = absurd (true≢false (sym e))
+
+  -- what ends at p and is not fresh has an older link
+  older : (a b c : Bool) → (a && (b && not c)) ≡ false → a ≡ true → b ≡ true → c ≡ true
+  older true true true e f g = refl
+  older true true false e f g = absurd (true≢false e)
+  older true false c e f g = absurd (true≢false (sym g))
+  older false b c e f g = absurd (true≢false (sym f))
+
+  put : fresh ≡ true → Dec (p ≡ r .b) → getD (ends-with true) p noEnd ≡ endOf (rs ++ (r ∷ [])) p
+  put e (yes q) =
+      let k = parts (is link r) (ltb (r .b) mostPoints) (member s (r .b)) e in
+      let below = ltb-true (r .b) mostPoints (k .1) in
+      let pl : place ≡ r .b = omega arith in
+      rw (
+        pl,
+        q,
+        getD-set-same ends (r .b) (endIn r) noEnd (omega (arith, w .long)),
+        first-so (endsAt (r .b)) rs r (sym (w .watches (r .b) below) ∙ k .2) (rw (k .0, eq-eqb (r .b) (r .b) refl)),
+      )
+  put e (no q) =
+      let k = parts (is link r) (ltb (r .b) mostPoints) (member s (r .b)) e in
+      let below = ltb-true (r .b) mostPoints (k .1) in
+      let pl : place ≡ r .b = omega arith in
+      rw (pl, getD-set-other ends (r .b) p (endIn r) noEnd q, first-not (endsAt p) rs r (rw (k .0, ne-eqb p (r .b) q))) (w .ends p h)
+
+  kept : fresh ≡ false → (l m : Bool) → is link r ≡ l → eqb p (r .b) ≡ m → linkTo (rs ++ (r ∷ [])) p ≡ linkTo rs p
+  kept e true true f g =
+      let q = eqb-true p (r .b) g in
+      let there = older (is link r) (ltb (r .b) mostPoints) (member s (r .b)) e f (lt-ltb (r .b) mostPoints (omega arith)) in
+      first-old (endsAt p) rs r (sym (w .watches p h) ∙ rw q there)
+  kept e true false f g = first-not (endsAt p) rs r (rw (f, g))
+  kept e false m f g = first-not (endsAt p) rs r (rw f)
+
+  by-fresh : (b : Bool) → fresh ≡ b → getD (ends-with b) p noEnd ≡ endOf (rs ++ (r ∷ [])) p
+  by-fresh true e = put e (ℕ-discrete p (r .b))
+  by-fresh false e = rw (set-getD ends place noEnd, kept e (is link r) (eqb p (r .b)) refl refl) (w .ends p h)
+
+module _ (rs : List Record) (s : ℕ) (ends : List End) (w : LinksOf rs (linksAs s ends)) (r : Record) where
+  pub links-more : LinksOf (rs ++ (r ∷ [])) (linksAs (watchedAfter r s) (set ends (r .b % mostPoints) (endAfter r s (getD ends (r .b % mostPoints) noEnd))))
+  links-more =
+      record {
+        long = simp length-set (w .long);
+        fits = fits-by (is link r) s (r .b) (w .fits);
+        watches = λ p h. rw (some-snoc (endsAt p) rs r) (watched-by s r p h (watched rs p) (w .watches p h) (is link r) (ltb (r .b) mostPoints) refl refl);
+        ends = λ p h. by-fresh rs s ends w r p h (fresh rs s ends w r p h) refl;
+      }
+
+-- a turn of the loop: the record at place i of rs
+pub links-turn : (rs : List Record) (i : ℕ) (s : ℕ) (ends : List End) → LinksOf (take i rs) (linksAs s ends) → i < length rs → (r : Record) → getD rs i blank ≡ r
+    → LinksOf (take (i + 1) rs) (linksAs (watchedAfter r s) (set ends (r .b % mostPoints) (endAfter r s (getD ends (r .b % mostPoints) noEnd))))
+links-turn rs i s ends w h r e = rw (one-more rs i h, e) (links-more (take i rs) s ends w r)
+
+-- ---- the link that ends at a watched point
+
+pub runs-to : (rs : List Record) (done p : ℕ) → watched rs p ≡ true
+    → runs done (linkTo rs p) ≡ (member done (linkTo rs p .a) && not (member done p))
+runs-to rs done p h =
+    let l = linkTo rs p in
+    let e = both (is link l) (eqb p (l .b)) (first-found (endsAt p) rs h .0) in
+    let q = eqb-true p (l .b) (e .1) in
+    rw (e .0, ← q)

@@ -1,0 +1,97 @@
+-- `links::links_of` meets its contract. Assumes nothing.
+use borrow.Author.Needs.{needs}
+use native.Mathlib.Omega.{arith}
+use mathlib.Core.Path.{_≡_}
+use Prim.Native.Nat.{_≤_, _-_, min}
+use lib.ListN.{length, take, length-map}
+use Rattle.plan.specs.Limits.{mostRecords}
+use Rattle.plan.specs.APlan.{recordsOf}
+use Rattle.links.specs.Inside.{LinksOf}
+use Rattle.plan.proofs.Records.{next-record, last-record, all-of}
+use Rattle.links.proofs.Linking.{linksAs, links-none, links-turn}
+use Rattle.links.proofs.links_of.Statement.{statement}
+use Rattle.links.proofs.links_of.Tie as tie
+
+abbrev Inv-loop : tie.InvT-loop
+Inv-loop plan count ends₀ watched₀ i₀ ends watched i =
+    (i ≤ count) × (count ≡ min (plan .count) mostRecords) × (length (plan .records) ≡ mostRecords) × LinksOf (take i (recordsOf plan)) (linksAs watched ends)
+
+abbrev μ-loop : tie.MeasureT-loop
+μ-loop plan count ends₀ watched₀ i₀ ends watched i = count - i
+
+used-requires : tie.Need-used-requires Inv-loop μ-loop
+used-requires c κs = search needs
+
+loop-holds : tie.Need-loop-holds Inv-loop μ-loop
+loop-holds c =
+    let g = c .before .good in
+    (omega arith, c .used .ensures, rw length-map at (g .0 .1 .1 .1 .0 .1 .0 .1), links-none)
+
+mul-r : tie.Need-mul-r Inv-loop μ-loop
+mul-r c = search needs
+
+element-copy-out-r : tie.Need-element-copy-out-r Inv-loop μ-loop
+element-copy-out-r c = search needs
+
+cast-c : tie.Need-cast-c Inv-loop μ-loop
+cast-c c = search needs
+
+mul-end : tie.Need-mul-end Inv-loop μ-loop
+mul-end c = search needs
+
+array-copy-out-end : tie.Need-array-copy-out-end Inv-loop μ-loop
+array-copy-out-end c = search needs
+
+end-after-requires : tie.Need-end-after-requires Inv-loop μ-loop
+end-after-requires c κs = search needs
+
+mul-ends : tie.Need-mul-ends Inv-loop μ-loop
+mul-ends c = search needs
+
+array-set-from-ends : tie.Need-array-set-from-ends Inv-loop μ-loop
+array-set-from-ends c = search needs
+
+watched-after-requires : tie.Need-watched-after-requires Inv-loop μ-loop
+watched-after-requires c κs = search needs
+
+add-i : tie.Need-add-i Inv-loop μ-loop
+add-i c = search needs
+
+loop-less : tie.Need-loop-less Inv-loop μ-loop
+loop-less c = search needs
+
+loop-again : tie.Need-loop-again Inv-loop μ-loop
+loop-again c =
+    let p = c .before .before .before .before .before .before .before .before .args .t1 in
+    let i = c .before .before .before .before .before .before .loop .inv in
+    let k = c .before .before .before .before .before .before .loop .i in
+    let w = next-record p (i .2) _ (i .1) k (c .before .before .before .before .before .loop-test .taken) in
+    (omega arith, i .1, i .2, rw (c .watched-after .ensures, c .before .end-after .ensures) (links-turn (recordsOf p) k _ _ (i .3) (w .0) _ (w .1)))
+
+returns : tie.Need-returns Inv-loop μ-loop
+returns c =
+    let p = c .before .before .before .args .t1 in
+    let i = c .before .loop .inv in
+    rw (all-of (recordsOf p) (c .before .loop .i) (last-record p (i .2) _ (i .1) _ (c .loop-test .left))) at (i .3)
+
+pub links-of-spec : {M : Type 1} → statement M
+links-of-spec =
+    tie.close
+    (tie.spec
+    Inv-loop
+    μ-loop
+    used-requires
+    loop-holds
+    mul-r
+    element-copy-out-r
+    cast-c
+    mul-end
+    array-copy-out-end
+    end-after-requires
+    mul-ends
+    array-set-from-ends
+    watched-after-requires
+    add-i
+    loop-less
+    loop-again
+    returns)

@@ -1,0 +1,91 @@
+// An event's minute and its set of watched points: the numbers 24 to 27 in order, from a plan's links and from what has
+// happened as plain values.
+ghost use mathlib.Core.Path.{_≡_};
+ghost use Rattle.points.specs.Sets.{membersOf, every};
+ghost use Rattle.plan.specs.APlan.{recordsOf};
+ghost use Rattle.links.specs.Inside.{LinksOf, runsAt, timely, timelyAt, setNumber};
+use crate::BEFORE_CLOCK;
+use crate::End;
+use crate::Links;
+use crate::NOT_IN_TIME;
+use crate::NOT_RUNNING;
+use crate::RUN_OUT;
+use history::Ask;
+use history::ROOM;
+use history::every_record;
+use history::minute_at;
+use history::wide;
+use plan::Plan;
+use points::first;
+use points::has;
+use points::without;
+
+// 25: the set's points end running links.
+fn all_running(done: u32, links: Links, set: u32) -> bool
+    ensures { λ t. ⌜ t ≡ every (runsAt done links) (membersOf set) ⌝ }
+{
+    let mut rest = set;
+    while rest != 0 {
+        let p = first(rest);
+        let at = p as usize;
+        let end = links.ends[at];
+        if !(has(links.watched, p) & (has(done, end.from) & !has(done, p))) {
+            return false;
+        }
+        rest = without(rest, p);
+    }
+    true
+}
+
+// A link from a point at the minute `from` may end at the minute t.
+fn is_timely(from: u32, end: End, t: u32) -> bool
+    ensures { λ r. ⌜ r ≡ timely from end t ⌝ }
+{
+    (wide(from) + wide(end.shortest) <= wide(t)) & (wide(t) <= wide(from) + wide(end.longest))
+}
+
+// 26: each point of the set comes within its link's x to y.
+fn all_in_time(minutes: [u32; ROOM], links: Links, t: u32, set: u32) -> bool
+    ensures { λ r. ⌜ r ≡ every (timelyAt minutes links t) (membersOf set) ⌝ }
+{
+    let mut rest = set;
+    while rest != 0 {
+        let p = first(rest);
+        let place = p as usize;
+        let end = links.ends[place];
+        if !is_timely(minute_at(minutes, end.from), end, t) {
+            return false;
+        }
+        rest = without(rest, p);
+    }
+    true
+}
+
+// 24 to 27 in order for a set of points at the minute t, or else `next`.
+pub fn set_number(
+    plan: Plan,
+    links: Links,
+    clock: u32,
+    done: u32,
+    minutes: [u32; ROOM],
+    t: u32,
+    set: u32,
+    next: u32,
+) -> u32
+    requires { ⌜ LinksOf (recordsOf plan) links ⌝ }
+    ensures { λ n. ⌜ n ≡ setNumber (recordsOf plan) clock done minutes t set next ⌝ }
+{
+    if t < clock {
+        return BEFORE_CLOCK;
+    }
+    if !all_running(done, links, set) {
+        return NOT_RUNNING;
+    }
+    if !all_in_time(minutes, links, t, set) {
+        return NOT_IN_TIME;
+    }
+    if !every_record(plan, clock, done, minutes, Ask::NotLate(t, set)) {
+        return RUN_OUT;
+    }
+    next
+}

@@ -1,0 +1,12 @@
+-- What is found of one projection, any edges E: it is good, it has a cycle of negative sum, or a first bad pair.
+-- Assumes nothing.
+use Prim.Native.Nat.{ℕ}
+use Rattle.network.specs.Passing.{Cycle, Good}
+use Rattle.projection.specs.declared.Finding.{Finding}
+use Rattle.projection.specs.declared.Finding.the-variants as finding
+use Rattle.projection.specs.Judging.{FirstBad}
+
+pub data FoundOf (E : ℕ → ℕ → ℕ → ℕ → Type 0) : Finding → Type 0 where
+  is-good : Good E → FoundOf E finding.Good
+  has-cycle : Cycle E → FoundOf E finding.Cycle
+  has-pair : {X Y : ℕ} → FirstBad E X Y → FoundOf E (finding.Pair X Y)

@@ -1,0 +1,45 @@
+-- `replies::reply_of` meets its contract. Assumes nothing.
+use borrow.Author.Needs.{needs}
+use mathlib.Core.Path.{sym, _∙_}
+use borrow.Author.Tests.{not-true, not-false}
+use Rattle.replies.proofs.Numbers.{reply-numbered}
+use Rattle.replies.proofs.Replying.{reply-refused, is-accepted, reply-unsound, reply-sound}
+use Rattle.replies.proofs.reply_of.Statement.{statement}
+use Rattle.replies.proofs.reply_of.Tie as tie
+
+check-requires : tie.Need-check-requires
+check-requires c κs = search needs
+
+nothing-more-requires : tie.Need-nothing-more-requires
+nothing-more-requires c κs = search needs
+
+returns : tie.Need-returns
+returns c = reply-numbered (c .before .before .before .before .args .plan) (c .before .before .before .before .args .board) (c .nothing-more .ensures ∙ reply-refused _ (c .before .before .before .before .args .board) _ (c .before .before .before .check .ensures) (c .before .if1 .taken))
+
+is-sound-requires : tie.Need-is-sound-requires
+is-sound-requires c κs = search needs
+
+nothing-more-requires-2 : tie.Need-nothing-more-requires-2
+nothing-more-requires-2 c κs = search needs
+
+returns-2 : tie.Need-returns-2
+returns-2 c = reply-numbered (c .before .before .before .before .before .before .args .plan) (c .before .before .before .before .before .before .args .board) (c .nothing-more2 .ensures ∙ reply-unsound _ (c .before .before .before .before .before .before .args .board) _ (c .before .before .before .before .before .check .ensures) (c .before .before .before .if1 .left) (sym (c .before .before .is-sound .ensures) ∙ not-true _ (c .before .if2 .taken)))
+
+reply-sound-requires : tie.Need-reply-sound-requires
+reply-sound-requires c κs = (is-accepted _ (c .before .before .before .before .before .args .board) _ (c .before .before .before .before .check .ensures) (c .before .before .if1 .left), sym (c .before .is-sound .ensures) ∙ not-false _ (c .if2 .left))
+
+returns-3 : tie.Need-returns-3
+returns-3 c = reply-numbered (c .before .before .before .before .before .before .args .plan) (c .before .before .before .before .before .before .args .board) (c .reply-sound .ensures ∙ reply-sound _ (c .before .before .before .before .before .before .args .board) _ (c .before .before .before .before .before .check .ensures) (c .before .before .before .if1 .left) (sym (c .before .before .is-sound .ensures) ∙ not-false _ (c .before .if2 .left)))
+
+pub reply-of-spec : {M : Type 1} → statement M
+reply-of-spec =
+    tie.close
+    (tie.spec
+    check-requires
+    nothing-more-requires
+    returns
+    is-sound-requires
+    nothing-more-requires-2
+    returns-2
+    reply-sound-requires
+    returns-3)

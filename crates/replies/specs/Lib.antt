@@ -1,0 +1,4 @@
+-- What a reader has to believe of replies. No proofs are here.
+pub mod Replies
+pub mod Numbers
+pub mod Inside

@@ -1,0 +1,153 @@
+// The reply to a board: the first outcome that fits, and for an offer the latest and a state for each point. Document 01,
+// "Board, windows, replies". `reply_of` takes any plan and any board; the functions behind it assume what their contracts ask,
+// an accepted plan and a sound board.
+ghost use mathlib.Core.Path.{_≡_};
+ghost use mathlib.Core.Bool.{true};
+ghost use Rattle.plan.specs.APlan.{recordsOf};
+ghost use Rattle.plan.specs.ReplyNumbers.{checkOf};
+ghost use Rattle.board.specs.Boards.{sound};
+ghost use Rattle.replies.specs.Replies.{bare, soundReply, replyOf};
+ghost use Rattle.replies.specs.Numbers.{outcomeNumber, callNumber};
+ghost use Rattle.replies.specs.Inside.{stateFrom, offerFrom};
+use board::Board;
+use board::ROOM;
+use board::UNSOUND;
+use board::is_finished;
+use board::is_sound;
+use board::is_stuck;
+use board::windows_of;
+use links::links_of;
+use plan::ACCEPTED;
+use plan::Plan;
+use plan::check;
+use points::MOST;
+use points::has;
+use windows::Windows;
+use windows::latest_of;
+
+// What is said of one point in an offer.
+pub enum State {
+    Done(u32),
+    Watched,
+    Shut,
+    Held,
+    Offered(u32),
+}
+
+// A point's place in a reply.
+pub struct Place {
+    pub state: State,
+}
+
+// What a board is.
+pub enum Outcome {
+    Refused(u32, u32),
+    Finished,
+    Stuck,
+    Waiting,
+    Offers,
+}
+
+// A reply: only an offer carries a latest minute and a list.
+pub struct Reply {
+    pub outcome: Outcome,
+    pub latest: u32,
+    pub places: [Place; ROOM],
+}
+
+// A point's state in an offer.
+fn state_of(done: bool, minute: u32, watches: bool, opens: bool, low: u32, latest: u32) -> State
+    ensures { λ s. ⌜ s ≡ stateFrom done minute watches opens low latest ⌝ }
+{
+    if done {
+        return State::Done(minute);
+    }
+    if watches {
+        return State::Watched;
+    }
+    if !opens {
+        return State::Shut;
+    }
+    if latest < low {
+        return State::Held;
+    }
+    State::Offered(low)
+}
+
+// An outcome that carries nothing more.
+fn nothing_more(outcome: Outcome) -> Reply
+    ensures { λ r. ⌜ r ≡ bare outcome ⌝ }
+{
+    let shut = Place { state: State::Shut };
+    let places = [shut; ROOM];
+    Reply {
+        outcome: outcome,
+        latest: 0,
+        places: places,
+    }
+}
+
+// An offer with its list.
+fn offer(board: Board, watches: u32, w: Windows, latest: u32) -> Reply
+    ensures { λ r. ⌜ r ≡ offerFrom board watches w latest ⌝ }
+{
+    let done = board.done;
+    let minutes = board.minutes;
+    let opens = w.opens;
+    let lows = w.lows;
+    let shut = Place { state: State::Shut };
+    let mut places = [shut; ROOM];
+    let mut p: u8 = 0;
+    while p < MOST {
+        let at = p as usize;
+        let state = state_of(
+            has(done, p),
+            minutes[at],
+            has(watches, p),
+            has(opens, p),
+            lows[at],
+            latest,
+        );
+        places[at] = Place { state: state };
+        p += 1;
+    }
+    Reply {
+        outcome: Outcome::Offers,
+        latest: latest,
+        places: places,
+    }
+}
+
+// The reply to a sound board of an accepted plan.
+fn reply_sound(plan: Plan, board: Board) -> Reply
+    requires { ⌜ (checkOf plan .number ≡ 0) × (sound (recordsOf plan) board ≡ true) ⌝ }
+    ensures { λ r. ⌜ r ≡ soundReply (recordsOf plan) board ⌝ }
+{
+    if is_finished(plan, board) {
+        return nothing_more(Outcome::Finished);
+    }
+    let links = links_of(plan);
+    let w = windows_of(plan, board, links);
+    if is_stuck(plan, board, w) {
+        return nothing_more(Outcome::Stuck);
+    }
+    if w.opens == 0 {
+        return nothing_more(Outcome::Waiting);
+    }
+    offer(board, links.watched, w, latest_of(board.clock, w.high))
+}
+
+// What a board is: the plan's own refusal first, then 20, then the first outcome that fits.
+pub fn reply_of(plan: Plan, board: Board) -> Reply
+    ensures reply { λ r. ⌜ r ≡ replyOf plan board ⌝ }
+    ensures number { λ r. ⌜ outcomeNumber (r .outcome) ≡ callNumber plan board ⌝ }
+{
+    let found = check(plan);
+    if found.number != ACCEPTED {
+        return nothing_more(Outcome::Refused(found.number, found.place));
+    }
+    if !is_sound(plan, board) {
+        return nothing_more(Outcome::Refused(UNSOUND, 0));
+    }
+    reply_sound(plan, board)
+}

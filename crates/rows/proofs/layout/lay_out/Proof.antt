@@ -1,0 +1,62 @@
+-- `vee::layout::lay_out` meets its contract. Assumes nothing.
+use Rattle.rows.proofs.Layouts.{Laying, turn, ended, laid-row, records-in}
+use Rattle.plan.specs.APlan.{recordsOf}
+use lib.ListN.{length-map}
+use Prim.Native.Nat.{ℕ, _-_, _≤_}
+use borrow.Author.Needs.{needs}
+use native.Mathlib.Omega.{arith}
+use Rattle.rows.proofs.layout.lay_out.Statement.{statement}
+use Rattle.rows.proofs.layout.lay_out.Tie as tie
+
+abbrev Inv-loop : tie.InvT-loop
+Inv-loop sheet₀ plan count q₀ sheet q = (q ≤ count) × Laying (recordsOf plan) q sheet
+
+abbrev μ-loop : tie.MeasureT-loop
+μ-loop sheet₀ plan count q₀ sheet q = count - q
+
+cast-count : tie.Need-cast-count Inv-loop μ-loop
+cast-count c = search needs
+
+loop-holds : tie.Need-loop-holds Inv-loop μ-loop
+loop-holds c = (omega arith, record { long = c .pre .1; rows = λ q h. absurd (omega arith) })
+
+mul-r : tie.Need-mul-r Inv-loop μ-loop
+mul-r c = omega arith
+
+element-copy-out-r : tie.Need-element-copy-out-r Inv-loop μ-loop
+element-copy-out-r c = omega arith
+
+row-of-requires : tie.Need-row-of-requires Inv-loop μ-loop
+row-of-requires c κs = search needs
+
+write-row-requires : tie.Need-write-row-requires Inv-loop μ-loop
+write-row-requires c κs = omega arith
+
+add-q : tie.Need-add-q Inv-loop μ-loop
+add-q c = omega arith
+
+loop-less : tie.Need-loop-less Inv-loop μ-loop
+loop-less c = omega arith
+
+loop-again : tie.Need-loop-again Inv-loop μ-loop
+loop-again c = (omega arith, turn (c .before .before .before .before .before .loop .inv .1) (laid-row _ _ (c .before .before .before .before .before .before .pre .0) (c .before .before .before .before .loop-test .taken) (c .before .before .before .before .before .loop .inv .1 .long) (c .before .row-of .ensures) (c .write-row .ensures)))
+
+returns : tie.Need-returns Inv-loop μ-loop
+returns c = ended (records-in _ (rw length-map at (c .before .before .good .0 .1 .1 .1 .0 .1 .0 .1)) (c .before .before .pre .0) (c .loop-test .left)) (c .before .loop .inv .1)
+
+pub lay-out-spec : {M : Type 1} → statement M
+lay-out-spec =
+    tie.close
+    (tie.spec
+    Inv-loop
+    μ-loop
+    cast-count
+    loop-holds
+    mul-r
+    element-copy-out-r
+    row-of-requires
+    write-row-requires
+    add-q
+    loop-less
+    loop-again
+    returns)

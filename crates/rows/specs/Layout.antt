@@ -1,0 +1,45 @@
+-- The sheet of a plan: the row of each record. A reader of the rules can leave this page out. Assumes nothing.
+use mathlib.Core.Path.{_≡_}
+use mathlib.Core.List.{List}
+use Prim.Native.Nat.{ℕ, _+_, _*_, _<_}
+use lib.ListN.{length, getD, set}
+use Rattle.plan.specs.Choice.{if_then_else_}
+use Rattle.plan.specs.APlan.{link, wait, is, blank, gapOf, linkTo}
+use Rattle.records.specs.declared.Record.{Record}
+use Rattle.rows.specs.declared.sheet.Row.{Row}
+use Rattle.rows.specs.Sheet.{kindAt, fromAt, toAt, firstAt, secondAt, overAt, width}
+
+abbrev pub rowOf : List Record → Record → Row
+rowOf rs r =
+    record {
+      kind = r .kind;
+      from = r .a;
+      to = if is wait r then linkTo rs (r .b) .a else r .b;
+      first = gapOf (r .first) .up;
+      second = if is link r then gapOf (r .second) .up else gapOf (r .first) .down;
+      over = r .b;
+    }
+
+-- row q of the sheet is x
+pub record RowIs (s : List ℕ) (q : ℕ) (x : Row) : Type 0 where
+  pub kind : kindAt s q ≡ x .kind
+  pub from : fromAt s q ≡ x .from
+  pub to : toAt s q ≡ x .to
+  pub first : firstAt s q ≡ x .first
+  pub second : secondAt s q ≡ x .second
+  pub over : overAt s q ≡ x .over
+
+-- the sheet with x as its row q
+abbrev pub stored : List ℕ → ℕ → Row → List ℕ
+stored s q x =
+    set
+    (set
+    (set (set (set (set s (q * width) (x .kind)) (q * width + 1) (x .from)) (q * width + 2) (x .to)) (q * width + 3) (x .first))
+    (q * width + 4)
+    (x .second))
+    (q * width + 5)
+    (x .over)
+
+-- each record has its row
+pub record LaidOut (rs : List Record) (s : List ℕ) : Type 0 where
+  pub rows : (q : ℕ) → q < length rs → RowIs s q (rowOf rs (getD rs q blank))

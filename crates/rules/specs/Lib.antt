@@ -1,0 +1,3 @@
+-- What a reader has to believe of one record after others: the rules 4 to 11. No proofs are here.
+pub mod OneRecord
+pub mod Inside

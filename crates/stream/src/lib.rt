@@ -1,0 +1,18 @@
+// What a stream of records does to a sheet, and its lines in a buffer: the plan part, then events, each with what there is to
+// print of it. Every function here has an exact contract; reading and writing are `printing`'s. An inner room of the two
+// programs: some functions have a `requires`, which every caller is proved to meet.
+mod bytes;
+mod list;
+mod sheet;
+
+pub use bytes::behind;
+pub use bytes::fits;
+pub use bytes::within;
+pub use list::line_at;
+pub use list::listed;
+pub use sheet::BEGUN;
+pub use sheet::EVENT;
+pub use sheet::PLAYING;
+pub use sheet::REFUSED;
+pub use sheet::Sheet;
+pub use sheet::TAIL;

@@ -1,0 +1,16 @@
+-- What the functions behind the verdict compute. A reader of the rules can leave this page out: the open functions' contracts do
+-- not cite it. Assumes nothing.
+use mathlib.Core.Bool.{Bool, true}
+use Prim.Native.Nat.{ℕ, _+_, _-_, min}
+use lib.Dec.{leb}
+use Rattle.plan.specs.Choice.{if_then_else_}
+use Rattle.plan.specs.APlan.{ordinary, wait, is, gapOf}
+use Rattle.records.specs.declared.Record.{Record}
+use Rattle.bounds.specs.Bounds.{boundKept}
+
+-- the record r is kept, where its points are at the minutes `at` and `to`, and the link to its second one started at `from`
+abbrev pub keptAt : ℕ → ℕ → ℕ → Record → Bool
+keptAt at to from r =
+    if is ordinary r then boundKept at (r .first) to
+    else if is wait r then leb (from + min (gapOf (r .first) .up) (to - from)) at
+    else true

@@ -1,0 +1,159 @@
+// What is asked of windows: whether a board of such windows is stuck, the latest, and an event's numbers 21 to 30.
+ghost use mathlib.Core.Path.{_≡_};
+ghost use Prim.Native.Nat.{_+_, _≤_};
+ghost use lib.Dec.{ltb};
+ghost use lib.ListN.{getD};
+ghost use Rattle.points.specs.Sets.{membersOf, every};
+ghost use Rattle.plan.specs.Limits.{farthest};
+ghost use Rattle.plan.specs.APlan.{recordsOf};
+ghost use Rattle.links.specs.Inside.{LinksOf};
+ghost use Rattle.lowhigh.specs.Inside.{lastMinute, Given};
+ghost use Rattle.windows.specs.Inside.{stuckFrom, latestFrom, pointFrom, laterNumber, Numbered};
+use crate::ALL_DONE;
+use crate::IS_STUCK;
+use crate::NOT_FORMED;
+use crate::NOT_OPEN;
+use crate::TOO_EARLY;
+use crate::TOO_LATE;
+use crate::Windows;
+use crate::windows_of;
+use events::Event;
+use events::NO_POINT;
+use events::event_in;
+use events::is_formed;
+use history::Ask;
+use history::ROOM;
+use history::all_points;
+use history::every_record;
+use links::Links;
+use links::set_number;
+use lowhigh::FARTHEST;
+use lowhigh::lesser;
+use lowhigh::past;
+use plan::ACCEPTED;
+use plan::Plan;
+use plan::points_of;
+use points::MOST;
+use points::first;
+use points::has;
+use points::without;
+
+// A Low is above H, which is 100,000 up.
+fn is_above(high: u32, low: u32) -> bool
+    ensures { λ t. ⌜ t ≡ ltb high (low + farthest) ⌝ }
+{
+    if high < FARTHEST {
+        true
+    } else {
+        high - FARTHEST < low
+    }
+}
+
+// Every open Low is above H.
+fn all_above(w: Windows) -> bool
+    ensures { λ t. ⌜ t ≡ every (λ q. ltb (w .high) (getD (w .lows) q 0 + farthest)) (membersOf (w .opens)) ⌝ }
+{
+    let lows = w.lows;
+    let high = w.high;
+    let mut rest = w.opens;
+    while rest != 0 {
+        let p = first(rest);
+        let at = p as usize;
+        if !is_above(high, lows[at]) {
+            return false;
+        }
+        rest = without(rest, p);
+    }
+    true
+}
+
+// Nothing is open and no link is running, or something is open and every open Low is above H.
+pub fn is_stuck(plan: Plan, clock: u32, done: u32, minutes: [u32; ROOM], w: Windows) -> bool
+    ensures { λ t. ⌜ t ≡ stuckFrom (recordsOf plan) done w ⌝ }
+{
+    if w.opens == 0 {
+        every_record(plan, clock, done, minutes, Ask::NotRunning)
+    } else {
+        all_above(w)
+    }
+}
+
+// The latest: the lesser of H, which is 100,000 up, and clock + 100,000.
+pub fn latest_of(clock: u32, high: u32) -> u32
+    requires { ⌜ clock ≤ lastMinute ⌝ }
+    ensures { λ m. ⌜ m ≡ latestFrom clock high ⌝ }
+{
+    past(lesser(high, clock + FARTHEST + FARTHEST), FARTHEST)
+}
+
+// The Low of a point; one past the last place has 0.
+fn low_of(w: Windows, p: u8) -> u32
+    ensures { λ m. ⌜ m ≡ getD (w .lows) p 0 ⌝ }
+{
+    if p < MOST {
+        let place = p as usize;
+        w.lows[place]
+    } else {
+        0
+    }
+}
+
+// 28 to 30 in order, or else 0.
+fn point_number(w: Windows, latest: u32, e: Event) -> u32
+    ensures { λ n. ⌜ n ≡ pointFrom w latest (e .minute) (e .point) ⌝ }
+{
+    let no_point = e.point == NO_POINT;
+    if !(no_point | has(w.opens, e.point)) {
+        return NOT_OPEN;
+    }
+    if !(no_point | (low_of(w, e.point) <= e.minute)) {
+        return TOO_EARLY;
+    }
+    if (w.opens != 0) & (latest < e.minute) {
+        return TOO_LATE;
+    }
+    ACCEPTED
+}
+
+// 23 to 30 in order for an event, or else 0. The set changes nothing for 28 to 30: the windows are those before it.
+fn later_number(
+    plan: Plan,
+    links: Links,
+    clock: u32,
+    done: u32,
+    minutes: [u32; ROOM],
+    w: Windows,
+    event: &[u8],
+) -> u32
+    requires { ⌜ LinksOf (recordsOf plan) links × (clock ≤ lastMinute) ⌝ }
+    ensures { λ n. ⌜ n ≡ laterNumber (recordsOf plan) clock done minutes w (now (event .entry)) ⌝ }
+{
+    if !is_formed(event, points_of(plan)) {
+        return NOT_FORMED;
+    }
+    let e = event_in(event);
+    let number = point_number(w, latest_of(clock, w.high), e);
+    set_number(plan, links, clock, done, minutes, e.minute, e.set, number)
+}
+
+// 21 to 30 in order for an event, or else 0.
+pub fn event_number(
+    plan: Plan,
+    links: Links,
+    clock: u32,
+    done: u32,
+    minutes: [u32; ROOM],
+    event: &[u8],
+) -> u32
+    requires { ⌜ Given plan links minutes × (clock ≤ lastMinute) ⌝ }
+    ensures { λ n. ⌜ Numbered (recordsOf plan) clock done minutes (now (event .entry)) n ⌝ }
+{
+    if done == all_points(plan) {
+        return ALL_DONE;
+    }
+    let w = windows_of(plan, links, clock, done, minutes);
+    if is_stuck(plan, clock, done, minutes, w) {
+        return IS_STUCK;
+    }
+    later_number(plan, links, clock, done, minutes, w, event)
+}

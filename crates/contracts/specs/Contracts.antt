@@ -31,9 +31,9 @@ use Rattle.lent.specs.declared.Judged.{Judged}
 use Rattle.vee.specs.PlanTest.{Tested}
 use Rattle.vee.specs.declared.Answer.{Answer}
 use Rattle.replies.specs.declared.Place.{Place}
-use Rattle.text.specs.Text.{lineOf}
+use Rattle.lines.specs.Text.{lineOf}
 use Rattle.text.specs.Lines.{planLine, numbersLine, eventLine, replyLine, testLine, boardLine, pointLine, tailLine, endLine}
-use Rattle.text.specs.declared.Line.{Line}
+use Rattle.lines.specs.declared.Line.{Line}
 
 -- what is permitted has at most one instance
 abbrev pub Single : {A : Type 0} → (A → Type 0) → Type 0

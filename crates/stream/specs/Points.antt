@@ -7,7 +7,7 @@ use Rattle.replies.specs.declared.Place.{Place}
 use Rattle.replies.specs.declared.State.the-variants.{Done}
 use Rattle.replies.specs.declared.Reply.{Reply}
 use Rattle.text.specs.Lines.{pointLine}
-use Rattle.text.specs.declared.Line.{Line}
+use Rattle.lines.specs.declared.Line.{Line}
 
 -- what stands past a list's end; no line is made of it
 abbrev pub nowhere : Place

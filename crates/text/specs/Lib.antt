@@ -1,5 +1,3 @@
 -- What a reader has to believe of the lines that the programs print. No proofs are here.
 pub mod Words
-pub mod Text
 pub mod Lines
-pub mod Inside

@@ -18,14 +18,10 @@ use Rattle.verdict.specs.declared.Verdict.the-variants as verdict
 use Rattle.vee.specs.declared.Answer.{Answer}
 use Rattle.vee.specs.declared.Answer.the-variants as answer
 use Rattle.text.specs.Words.{planWord, tailWord, endWord, keptWord, brokenWord, stuckWord, openWord, testWord, yesWord, cycleWord, pairWord, eventWord, boardWord, finishedWord, waitingWord, offersWord, pointWord, doneWord, watchedWord, shutWord, heldWord, offeredWord, refusedWord}
-use Rattle.text.specs.Text.{lineOf, textOf}
-use Rattle.text.specs.declared.Line.{Line}
-use Rattle.text.specs.declared.Piece.{Piece}
-use Rattle.text.specs.declared.Piece.the-variants.{Name, Number}
-
--- a line: its first piece and the others
-abbrev pub said : Piece → List Piece → Line
-said p ps = lineOf (textOf p ps)
+use Rattle.lines.specs.Text.{said}
+use Rattle.lines.specs.declared.Line.{Line}
+use Rattle.lines.specs.declared.Piece.{Piece}
+use Rattle.lines.specs.declared.Piece.the-variants.{Name, Number}
 
 -- plan NUMBER RECORD: a refused plan
 abbrev pub planLine : ℕ → ℕ → Line

@@ -18,14 +18,14 @@ words-requires-2 c κs = search needs
 enum-known-answer-3 : tie.Need-enum-known-answer-3
 enum-known-answer-3 c = search needs
 
-test-pair-requires : tie.Need-test-pair-requires
-test-pair-requires c κs = search needs
+pair-requires : tie.Need-pair-requires
+pair-requires c κs = search needs
 
 enum-known-answer-4 : tie.Need-enum-known-answer-4
 enum-known-answer-4 c = search needs
 
-test-number-requires : tie.Need-test-number-requires
-test-number-requires c κs = search needs
+number-requires : tie.Need-number-requires
+number-requires c κs = search needs
 
 returns : tie.Need-returns
 returns c = rw (c .before .before .answer .given .1) (c .words .ensures)
@@ -34,10 +34,10 @@ returns-2 : tie.Need-returns-2
 returns-2 c = rw (c .before .before .answer2 .given .1) (c .words2 .ensures)
 
 returns-3 : tie.Need-returns-3
-returns-3 c = rw (c .before .before .answer3 .given .1) (c .test-pair .ensures)
+returns-3 c = rw (c .before .before .answer3 .given .1) (c .pair .ensures)
 
 returns-4 : tie.Need-returns-4
-returns-4 c = rw (c .before .before .answer4 .given .1) (c .test-number .ensures)
+returns-4 c = rw (c .before .before .answer4 .given .1) (c .number .ensures)
 
 pub test-line-spec : {M : Type 1} → statement M
 test-line-spec =
@@ -48,9 +48,9 @@ test-line-spec =
     enum-known-answer-2
     words-requires-2
     enum-known-answer-3
-    test-pair-requires
+    pair-requires
     enum-known-answer-4
-    test-number-requires
+    number-requires
     returns
     returns-2
     returns-3

@@ -1,4 +1,4 @@
--- `text::+with_word` meets its contract. Assumes nothing.
+-- `lines::+with_word` meets its contract. Assumes nothing.
 use borrow.Author.Needs.{needs}
 use Prim.Native.Nat.{ℕ, _/_, _%_, _<_}
 use borrow.Fn.Kinds.{In}
@@ -6,14 +6,14 @@ use borrow.Fn.PlainCycle.{Measures, is, falls, and}
 use native.Mathlib.Omega.{arith}
 use mathlib.Core.Path.{_≡_}
 use mathlib.Core.List.{[], _∷_}
-use Rattle.text.specs.Text.{letters}
-use Rattle.text.proofs.Adding.{no-letter, more-letters, with-nothing, room-first, room-after, with-with}
-use Rattle.text.proofs.with_word.Reads as with-word
-use Rattle.text.proofs.with_word.Kinds as with-word-kinds
-use Rattle.text.proofs.+with_word.Lts-with_word as with-word-lts
-use Rattle.text.proofs.with_byte.Reads as with-byte-reads
-use Rattle.text.proofs.+with_word.{statement}
-use Rattle.text.proofs.+with_word.Tie.{close}
+use Rattle.lines.specs.Text.{letters}
+use Rattle.lines.proofs.Adding.{no-letter, more-letters, with-nothing, room-first, room-after, with-with}
+use Rattle.lines.proofs.with_word.Reads as with-word
+use Rattle.lines.proofs.with_word.Kinds as with-word-kinds
+use Rattle.lines.proofs.+with_word.Lts-with_word as with-word-lts
+use Rattle.lines.proofs.with_byte.Reads as with-byte-reads
+use Rattle.lines.proofs.+with_word.{statement}
+use Rattle.lines.proofs.+with_word.Tie.{close}
 
 falls-by : (w t : ℕ) → (w ≡ 0 → ⊥) → w ≡ t → w / 256 < t
 falls-by w t h e = omega arith

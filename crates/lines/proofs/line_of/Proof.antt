@@ -1,16 +1,16 @@
--- `text::line_of` meets its contract. Assumes nothing.
+-- `lines::line_of` meets its contract. Assumes nothing.
 use borrow.Author.Needs.{needs}
 use native.Mathlib.Omega.{arith}
 use mathlib.Core.Path.{_≡_, ap, _∙_}
 use mathlib.Core.List.{[], _∷_, _++_, append-nil, append-assoc}
 use Prim.Native.Nat.{ℕ, _≤_, _-_}
 use lib.ListN.{length, take, getD, length-append}
-use Rattle.text.specs.Text.{lineOf, pieceText, moreText, textOf}
-use Rattle.text.specs.declared.Piece.{Piece}
-use Rattle.text.specs.declared.Piece.the-variants.{Name}
-use Rattle.text.proofs.Adding.{fits-on, on, few-characters, sofar, sofar-few, sofar-more}
-use Rattle.text.proofs.line_of.Statement.{statement}
-use Rattle.text.proofs.line_of.Tie as tie
+use Rattle.lines.specs.Text.{lineOf, pieceText, moreText, textOf}
+use Rattle.lines.specs.declared.Piece.{Piece}
+use Rattle.lines.specs.declared.Piece.the-variants.{Name}
+use Rattle.lines.proofs.Adding.{fits-on, on, few-characters, sofar, sofar-few, sofar-more}
+use Rattle.lines.proofs.line_of.Statement.{statement}
+use Rattle.lines.proofs.line_of.Tie as tie
 
 abbrev Inv-loop : tie.InvT-loop
 Inv-loop count more line₀ i₀ line i =

@@ -5,9 +5,9 @@ use mathlib.Core.List.{List, [], _∷_, _++_}
 use Prim.Native.Nat.{ℕ, zero, suc, _+_, _-_, _/_, _%_}
 use lib.Dec.{eqb, ltb}
 use lib.ListN.{length, replicate}
-use Rattle.text.specs.declared.Line.{Line}
-use Rattle.text.specs.declared.Piece.{Piece}
-use Rattle.text.specs.declared.Piece.the-variants.{Name, Number}
+use Rattle.lines.specs.declared.Line.{Line}
+use Rattle.lines.specs.declared.Piece.{Piece}
+use Rattle.lines.specs.declared.Piece.the-variants.{Name, Number}
 
 -- how long a line may be
 abbrev pub room : ℕ
@@ -47,3 +47,7 @@ moreText (p ∷ ps) = (32 ∷ pieceText p) ++ moreText ps
 -- a whole line
 abbrev pub textOf : Piece → List Piece → List ℕ
 textOf p ps = pieceText p ++ (moreText ps ++ (10 ∷ []))
+
+-- the line of a first piece and the others
+abbrev pub said : Piece → List Piece → Line
+said p ps = lineOf (textOf p ps)

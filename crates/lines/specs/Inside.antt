@@ -3,8 +3,8 @@ use mathlib.Core.Path.{_≡_}
 use mathlib.Core.List.{List, _++_}
 use Prim.Native.Nat.{ℕ, _+_, _≤_}
 use lib.ListN.{length, take}
-use Rattle.text.specs.Text.{room, lineOf}
-use Rattle.text.specs.declared.Line.{Line}
+use Rattle.lines.specs.Text.{room, lineOf}
+use Rattle.lines.specs.declared.Line.{Line}
 
 -- a line's text
 abbrev pub textIn : Line → List ℕ

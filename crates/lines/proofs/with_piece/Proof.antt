@@ -1,7 +1,7 @@
--- `text::with_piece` meets its contract. Assumes nothing.
+-- `lines::with_piece` meets its contract. Assumes nothing.
 use borrow.Author.Needs.{needs}
-use Rattle.text.proofs.with_piece.Statement.{statement}
-use Rattle.text.proofs.with_piece.Tie as tie
+use Rattle.lines.proofs.with_piece.Statement.{statement}
+use Rattle.lines.proofs.with_piece.Tie as tie
 
 enum-known-piece : tie.Need-enum-known-piece
 enum-known-piece c = search needs

@@ -1,17 +1,17 @@
--- `text::+with_number` meets its contract. Assumes nothing.
+-- `lines::+with_number` meets its contract. Assumes nothing.
 use borrow.Author.Needs.{needs}
 use Prim.Native.Nat.{ℕ, _/_, _<_, _≤_}
 use borrow.Fn.Kinds.{In}
 use borrow.Fn.PlainCycle.{Measures, is, falls, and}
 use native.Mathlib.Omega.{arith}
-use Rattle.text.specs.Text.{decimal}
-use Rattle.text.proofs.Adding.{one-digit, more-digits, room-first, room-after, with-with}
-use Rattle.text.proofs.with_number.Reads as with-number
-use Rattle.text.proofs.with_number.Kinds as with-number-kinds
-use Rattle.text.proofs.+with_number.Lts-with_number as with-number-lts
-use Rattle.text.proofs.with_byte.Reads as with-byte-reads
-use Rattle.text.proofs.+with_number.{statement}
-use Rattle.text.proofs.+with_number.Tie.{close}
+use Rattle.lines.specs.Text.{decimal}
+use Rattle.lines.proofs.Adding.{one-digit, more-digits, room-first, room-after, with-with}
+use Rattle.lines.proofs.with_number.Reads as with-number
+use Rattle.lines.proofs.with_number.Kinds as with-number-kinds
+use Rattle.lines.proofs.+with_number.Lts-with_number as with-number-lts
+use Rattle.lines.proofs.with_byte.Reads as with-byte-reads
+use Rattle.lines.proofs.+with_number.{statement}
+use Rattle.lines.proofs.+with_number.Tie.{close}
 
 abbrev μ-with-number : Measures 0 with-number-kinds.ps ℕ
 μ-with-number κs a = a .1 .0

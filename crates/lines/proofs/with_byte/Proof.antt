@@ -1,8 +1,8 @@
--- `text::with_byte` meets its contract. Assumes nothing.
+-- `lines::with_byte` meets its contract. Assumes nothing.
 use native.Mathlib.Omega.{arith}
-use Rattle.text.proofs.Adding.{len-is, byte-more}
-use Rattle.text.proofs.with_byte.Statement.{statement}
-use Rattle.text.proofs.with_byte.Tie as tie
+use Rattle.lines.proofs.Adding.{len-is, byte-more}
+use Rattle.lines.proofs.with_byte.Statement.{statement}
+use Rattle.lines.proofs.with_byte.Tie as tie
 
 element-write-next : tie.Need-element-write-next
 element-write-next c = omega (arith, len-is (c .args .line) (c .pre .whole), c .pre .fits)

@@ -9,11 +9,11 @@ use lib.Dec.{eqb, ltb}
 use lib.ListN.{length, take, set, getD, replicate, length-append}
 use lib.Seq.{take-append-seam, set-at, append-snoc, take-suc, length-take-le}
 use borrow.Author.Tests.{lt-ltb, le-ltb, eq-eqb, ne-eqb}
-use Rattle.text.specs.Text.{room, lineOf, digits, decimal, spelled, letters, pieceText, moreText}
-use Rattle.text.specs.Inside.{textIn, Whole, with, RoomFor}
-use Rattle.text.specs.declared.Line.{Line}
-use Rattle.text.specs.declared.Piece.{Piece}
-use Rattle.text.specs.declared.Piece.the-variants.{Name, Number}
+use Rattle.lines.specs.Text.{room, lineOf, digits, decimal, spelled, letters, pieceText, moreText}
+use Rattle.lines.specs.Inside.{textIn, Whole, with, RoomFor}
+use Rattle.lines.specs.declared.Line.{Line}
+use Rattle.lines.specs.declared.Piece.{Piece}
+use Rattle.lines.specs.declared.Piece.the-variants.{Name, Number}
 
 pub text-back : (ts : List ℕ) → textIn (lineOf ts) ≡ ts
 text-back ts = take-append-seam ts (replicate (room - length ts) 0)

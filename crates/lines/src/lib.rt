@@ -1,0 +1,109 @@
+// A line of text as a value: words and decimal numbers with no leading zeros, single spaces between them, one line feed. It
+// has a length, and room for the longest line, zero past its length. Document 01, "The printing program". An inner room of the
+// crates that print: `line_of` has a `requires`, which every caller is proved to meet.
+ghost use mathlib.Core.Path.{_≡_};
+ghost use mathlib.Core.List.{[], _∷_};
+ghost use Prim.Native.Nat.{_≤_};
+ghost use lib.ListN.{length, take};
+ghost use Rattle.lines.specs.Text.{lineOf, letters, decimal, pieceText, textOf};
+ghost use Rattle.lines.specs.Inside.{with, RoomFor};
+
+mod shapes;
+
+pub use shapes::four;
+pub use shapes::number;
+pub use shapes::numbers;
+pub use shapes::pair;
+pub use shapes::state;
+pub use shapes::state_at;
+pub use shapes::two;
+pub use shapes::word;
+pub use shapes::words;
+
+// Room for a line: five pieces of at most twenty characters, and what stands between them.
+pub const ROOM: usize = 128;
+
+// How many pieces may follow the first.
+const MORE: usize = 4;
+
+pub struct Line {
+    pub len: usize,
+    pub bytes: [u8; ROOM],
+}
+
+pub enum Piece {
+    Name(u64),
+    Number(u64),
+}
+
+// An empty line.
+pub fn blank() -> Line
+    ensures { λ l. ⌜ l ≡ lineOf [] ⌝ }
+{
+    let bytes = [0u8; ROOM];
+    Line {
+        len: 0,
+        bytes: bytes,
+    }
+}
+
+// The line with a byte more.
+fn with_byte(line: Line, b: u8) -> Line
+    requires { ⌜ RoomFor line (b ∷ []) ⌝ }
+    ensures { λ l. ⌜ l ≡ with line (b ∷ []) ⌝ }
+{
+    let mut next = line;
+    let at = next.len;
+    next.bytes[at] = b;
+    next.len = at + 1;
+    next
+}
+
+// The line with a word more.
+fn with_word(line: Line, word: u64) -> Line
+    requires { ⌜ RoomFor line (letters word) ⌝ }
+    ensures { λ l. ⌜ l ≡ with line (letters word) ⌝ }
+{
+    if word == 0 {
+        return line;
+    }
+    with_word(with_byte(line, (word % 256) as u8), word / 256)
+}
+
+// The line with a number more, in decimal.
+fn with_number(line: Line, n: u64) -> Line
+    requires { ⌜ RoomFor line (decimal n) ⌝ }
+    ensures { λ l. ⌜ l ≡ with line (decimal n) ⌝ }
+{
+    if n < 10 {
+        return with_byte(line, 48 + (n as u8));
+    }
+    let front = with_number(line, n / 10);
+    with_byte(front, 48 + ((n % 10) as u8))
+}
+
+// The line with a piece more.
+fn with_piece(line: Line, piece: Piece) -> Line
+    requires { ⌜ RoomFor line (pieceText piece) ⌝ }
+    ensures { λ l. ⌜ l ≡ with line (pieceText piece) ⌝ }
+{
+    match piece {
+        Piece::Name(word) => with_word(line, word),
+        Piece::Number(n) => with_number(line, n),
+    }
+}
+
+// A whole line: a piece, and `count` more behind spaces.
+pub(crate) fn line_of(first: Piece, more: [Piece; MORE], count: usize) -> Line
+    requires { ⌜ count ≤ 4 ⌝ }
+    ensures { λ l. ⌜ l ≡ lineOf (textOf first (take count more)) ⌝ }
+{
+    let mut line = with_piece(blank(), first);
+    let mut i: usize = 0;
+    while i < count {
+        let piece = more[i];
+        line = with_piece(with_byte(line, 32), piece);
+        i += 1;
+    }
+    with_byte(line, 10)
+}

@@ -13,15 +13,20 @@ pub struct Sizes {
     pub waits: usize,
 }
 
-/// The limits of document 01.
+/// As many records as a plan can have. Of ordinary ones that is not their limit, 1,024: 32 points have 992 ordered pairs, and one
+/// record more is a twin.
 pub const FULL: Sizes = Sizes {
     points: 32,
     links: 8,
-    ordinary: 256,
+    ordinary: 32 * 31,
     waits: 64,
 };
 
 impl Sizes {
+    pub fn records(self) -> usize {
+        self.points + self.links + self.ordinary + self.waits
+    }
+
     /// A few records.
     pub fn small(draw: &mut Draw) -> Sizes {
         Sizes {
@@ -35,10 +40,10 @@ impl Sizes {
     /// Anything up to the limits.
     pub fn any(draw: &mut Draw) -> Sizes {
         Sizes {
-            points: draw.edgy(1, 32) as usize,
-            links: draw.edgy(0, 8) as usize,
-            ordinary: draw.edgy(0, 256) as usize,
-            waits: draw.edgy(0, 64) as usize,
+            points: draw.edgy(1, FULL.points as i64) as usize,
+            links: draw.edgy(0, FULL.links as i64) as usize,
+            ordinary: draw.edgy(0, FULL.ordinary as i64) as usize,
+            waits: draw.edgy(0, FULL.waits as i64) as usize,
         }
     }
 }
@@ -154,7 +159,7 @@ pub fn full(draw: &mut Draw) -> Plan {
         while !drawn.is_empty() && plan.waits.len() < FULL.waits {
             plan.waits.push(draw.pick(&drawn));
         }
-        if plan.records() == oracle::plan::ROOM {
+        if plan.records() == FULL.records() {
             return plan;
         }
     }

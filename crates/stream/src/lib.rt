@@ -3,6 +3,7 @@
 // programs: some functions have a `requires`, which every caller is proved to meet.
 mod bytes;
 mod list;
+mod many;
 mod sheet;
 
 pub use bytes::behind;
@@ -10,6 +11,7 @@ pub use bytes::fits;
 pub use bytes::within;
 pub use list::line_at;
 pub use list::listed;
+pub use many::said_line;
 pub use sheet::BEGUN;
 pub use sheet::EVENT;
 pub use sheet::PLAYING;

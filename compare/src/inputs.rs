@@ -145,7 +145,7 @@ fn sized_plans(draw: &mut Draw) -> Vec<Input> {
     streams(draw, "plan of any size", &plan, 4)
 }
 
-/// Plans with as many of a kind as there can be, one below and one past it: 6, or 15 for an ordinary record.
+/// Plans with a kind at its limit, one below and one past it.
 fn limits(draw: &mut Draw) -> Vec<Input> {
     let full = plans::full(draw);
     let sizes = [FULL.points, FULL.links, FULL.ordinary, FULL.waits];
@@ -447,10 +447,7 @@ fn each_tail(draw: &mut Draw) -> Vec<Input> {
     inputs
 }
 
-/// The most records of a file before document 02, §2: a desk still on the old reader has it.
-const OLD_ROOM: usize = 360;
-
-/// Plan parts longer than any plan, by one and by far, and at the edge that was.
+/// Plan parts longer than 360 records, by one and by far.
 fn long_parts(draw: &mut Draw) -> Vec<Input> {
     let plan = small_good(draw);
     let part = if draw.one_in(2) {
@@ -460,8 +457,8 @@ fn long_parts(draw: &mut Draw) -> Vec<Input> {
     };
     let stream = events::stream(draw, &plan, Style::Good);
     let mut inputs = Vec::new();
-    let far = draw.pick(&[400, 2 * ROOM, 4_095, 4_096, 4_097, 20_000]);
-    for count in [OLD_ROOM, OLD_ROOM + 1, ROOM - 1, ROOM, ROOM + 1, ROOM + 2, far] {
+    let far = draw.pick(&[400, 720, 1_000, 4_095, 4_096, 4_097, 20_000]);
+    for count in [ROOM - 1, ROOM, ROOM + 1, ROOM + 2, far] {
         let any = draw.byte();
         let filler = draw.pick(&[0, 1, 3, 254, any]);
         let mut long = part.clone();

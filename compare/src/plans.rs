@@ -13,20 +13,15 @@ pub struct Sizes {
     pub waits: usize,
 }
 
-/// As many records as a plan can have. Of ordinary ones that is not their limit, 1,024: 32 points have 992 ordered pairs, and one
-/// record more is a twin.
+/// The limits of document 01.
 pub const FULL: Sizes = Sizes {
     points: 32,
     links: 8,
-    ordinary: 32 * 31,
+    ordinary: 256,
     waits: 64,
 };
 
 impl Sizes {
-    pub fn records(self) -> usize {
-        self.points + self.links + self.ordinary + self.waits
-    }
-
     /// A few records.
     pub fn small(draw: &mut Draw) -> Sizes {
         Sizes {
@@ -40,10 +35,10 @@ impl Sizes {
     /// Anything up to the limits.
     pub fn any(draw: &mut Draw) -> Sizes {
         Sizes {
-            points: draw.edgy(1, FULL.points as i64) as usize,
-            links: draw.edgy(0, FULL.links as i64) as usize,
-            ordinary: draw.edgy(0, FULL.ordinary as i64) as usize,
-            waits: draw.edgy(0, FULL.waits as i64) as usize,
+            points: draw.edgy(1, 32) as usize,
+            links: draw.edgy(0, 8) as usize,
+            ordinary: draw.edgy(0, 256) as usize,
+            waits: draw.edgy(0, 64) as usize,
         }
     }
 }
@@ -159,7 +154,7 @@ pub fn full(draw: &mut Draw) -> Plan {
         while !drawn.is_empty() && plan.waits.len() < FULL.waits {
             plan.waits.push(draw.pick(&drawn));
         }
-        if plan.records() == FULL.records() {
+        if plan.records() == oracle::plan::ROOM {
             return plan;
         }
     }

@@ -16,7 +16,6 @@ use Rattle.plan.specs.PlanFile.{Entry, entriesIn, fileOf}
 use Rattle.plan.specs.ReplyNumbers.{refusal, accepted, firstBadWith, refused, taken, readEntriesWith, readWith, checkWith, writeWith, writtenWith}
 use Rattle.plan.specs.Held.{All, IsByte, plain}
 use Rattle.records.specs.declared.Record.{Record}
-use Rattle.plan.specs.declared.Plan.{Plan}
 use Rattle.plan.specs.declared.Reading.{Reading}
 use Rattle.plan.specs.declared.Refusal.{Refusal}
 use Rattle.plan.proofs.Entries.{IsPlain, plains, length-entries, bytes-again, past, passed, none-bad}

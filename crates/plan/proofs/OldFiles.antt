@@ -2,23 +2,21 @@
 -- the old limit refuses a larger file with 3 or 6. Assumes of a written file only that its bytes are bytes.
 use mathlib.Core.Path.{_≡_, refl, sym, ap, _∙_}
 use mathlib.Core.Bool.{Bool, true, false, not, true≢false}
-use mathlib.Core.List.{List, [], _∷_, _++_, map, append-nil}
+use mathlib.Core.List.{List, [], _∷_, _++_, append-nil}
 use mathlib.Core.Logic.{_⊎_, inl, inr}
 use Prim.Native.Nat.{ℕ, _+_, _/_, _≤_, _<_}
 use native.Mathlib.Omega.{arith}
-use lib.Dec.{eqb, ltb}
-use lib.ListN.{length, take, drop, getD, length-append}
+use lib.Dec.{ltb}
+use lib.ListN.{length, take, getD, length-append}
 use lib.Seq.{append-snoc, take-append-seam, getD-append-seam}
 use borrow.Author.Tests.{ltb-true, ltb-false, lt-ltb, eqb-true, eq-eqb, ne-eqb}
 use Rattle.plan.specs.Choice.{if_then_else_}
 use Rattle.plan.specs.Limits.{mostOrdinary, recordsWith, recordBytes}
-use Rattle.plan.specs.APlan.{Kind, point, link, ordinary, wait, unknown, kindOf, is, one, howMany, blank, recordsOf}
+use Rattle.plan.specs.APlan.{Kind, point, link, ordinary, wait, unknown, kindOf, is, one, howMany, blank}
 use Rattle.plan.specs.PlanFile.{Entry}
 use Rattle.plan.specs.ReplyNumbers.{Before, after, isKnown, inOrder, roomForWith, numberForWith, numberWith, firstBadWith, refusal, refused, readWith, writeWith, writtenWith}
-use Rattle.plan.specs.Held.{All, IsByte}
-use Rattle.plan.specs.OldFiles.{oldOrdinary, ReadAsBefore, WrittenAsBefore, Larger, RefusedBefore, three, six, OldFiles}
+use Rattle.plan.specs.OldFiles.{oldOrdinary, Larger, RefusedBefore, three, six, OldFiles}
 use Rattle.records.specs.declared.Record.{Record}
-use Rattle.plan.specs.declared.Plan.{Plan}
 use Rattle.plan.specs.declared.Reading.{Reading}
 use Rattle.plan.specs.declared.Refusal.{Refusal}
 use Rattle.plan.proofs.Entries.{passed}
@@ -166,7 +164,8 @@ module _ (m m′ : ℕ) (s : List ℕ) (l : Larger m m′ s) where
           let w = whole m′ s (l .accepted) in
           let some = found m′ s (l .accepted) .some in
           let r = read-records m′ s (l .accepted) in
-          let p = past-limit m m′ [] (parts s) (omega (arith, none-yet)) (rw r at (l .more)) (found m′ s (l .accepted) .none) in
+          let more = rw r at (l .more) in
+          let p = past-limit m m′ [] (parts s) (omega (arith, none-yet)) (omega (arith, more)) (found m′ s (l .accepted) .none) in
           six (p .place) (ltb-false _ _ t) (rw r (p .listed)) (rw r (p .kind)) (rw r (p .before))
           (rw (read-whole m _ s w, ne-eqb (length s / recordBytes) 0 (λ z. omega arith), t, p .six))
 

@@ -13,14 +13,16 @@ use stream::Sheet;
 use stream::TAIL;
 use stream::line_at;
 use stream::listed;
+use stream::ponds_of;
 
 // The list of an offer: a line for each point of the plan.
 fn list(plan: Plan, reply: Reply, lines: &mut [u8], out: Out) -> Out {
     let count = listed(plan);
+    let ponds = ponds_of(plan);
     let mut now = out;
     let mut i: u32 = 0;
     while i < count {
-        let line = line_at(plan, reply, i);
+        let line = line_at(ponds, reply, i);
         now = put(lines, now, line);
         i += 1;
     }

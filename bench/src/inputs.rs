@@ -20,10 +20,11 @@ impl Size {
     }
 }
 
-/// Every kind of record at its limit, and 4,096 projections.
+/// The largest plan of the form below: every kind of record but ordinary ones at its limit, of those all that the form has room
+/// for, and 4,096 projections.
 pub const FULL: Size = Size {
     points: 32,
-    ordinary: 256,
+    ordinary: 534,
     waits: 64,
     projections: 4_096,
 };
@@ -199,7 +200,7 @@ mod tests {
 
     #[test]
     fn plans_are_whole_and_pass() {
-        for (points, ordinary, waits) in [(8, 30, 60), (16, 55, 25), (32, 45, 15), (32, 256, 64)] {
+        for (points, ordinary, waits) in [(8, 30, 60), (16, 55, 25), (32, 45, 15), (32, 256, 64), (32, 534, 64)] {
             let projections = 256;
             let size = Size {
                 points,

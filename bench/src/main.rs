@@ -54,7 +54,7 @@ fn table(probe: &Sides, sheet: &Sides) -> io::Result<()> {
         "| what | points | records | projections | ours | plain C | ratio | least | largest |"
     );
     println!("|---|---:|---:|---:|---:|---:|---:|---:|---:|");
-    let records = [(4, 1), (40, 10), (112, 28), (256, 64)];
+    let records = [(4, 1), (40, 10), (112, 28), (256, 64), (534, 64)];
     let by_records = records.map(|(ordinary, waits)| Size {
         ordinary,
         waits,

@@ -19,6 +19,7 @@ pub use sound::minute_of;
 pub use standing::is_finished;
 pub use standing::is_stuck;
 pub use standing::windows_of;
+pub use stream::SAID;
 pub use windows::ALL_DONE;
 pub use windows::IS_STUCK;
 pub use windows::NOT_FORMED;

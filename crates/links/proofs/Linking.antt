@@ -14,7 +14,7 @@ use Rattle.points.specs.Sets.{member, withOf}
 use Rattle.points.proofs.Laws.{member-empty, member-with, with-fits, with-past}
 use Rattle.plan.specs.Choice.{if_then_else_}
 use Rattle.plan.specs.Limits.{mostPoints}
-use Rattle.plan.specs.APlan.{link, is, some, endsAt, watched, firstThat, linkTo, blank}
+use Rattle.plan.specs.APlan.{point, link, is, one, howMany, some, endsAt, watched, firstThat, linkTo, blank}
 use Rattle.records.specs.declared.Record.{Record}
 use Rattle.links.specs.Inside.{endIn, noEnd, endOf, watchedAfter, endAfter, LinksOf}
 use Rattle.links.specs.declared.End.{End}
@@ -22,15 +22,16 @@ use Rattle.links.specs.declared.Links.{Links}
 use Rattle.plan.proofs.Accepted.{first-found}
 use Rattle.history.specs.History.{runs}
 use Rattle.history.proofs.Tests.{both}
-use Rattle.plan.proofs.Records.{some-snoc, first-not, first-old, first-so, one-more}
+use Rattle.plan.proofs.Records.{many-snoc, some-snoc, first-not, first-old, first-so, one-more}
 
-abbrev pub linksAs : ℕ → List End → Links
-linksAs s ends = record { watched = s; ends = ends }
+abbrev pub linksAs : ℕ → ℕ → List End → Links
+linksAs n s ends = record { points = n; watched = s; ends = ends }
 
-pub links-none : LinksOf [] (linksAs 0 (replicate mostPoints noEnd))
-unfolding some firstThat
+pub links-none : LinksOf [] (linksAs 0 0 (replicate mostPoints noEnd))
+unfolding some firstThat howMany
 links-none =
     record {
+      points = refl;
       long = length-replicate mostPoints noEnd;
       fits = lit< tt;
       watches = λ p h. member-empty p;
@@ -51,7 +52,7 @@ fits-by true s q f = with-fits s q f
 fits-by false s q f = f
 
 -- the link to each
-module _ (rs : List Record) (s : ℕ) (ends : List End) (w : LinksOf rs (linksAs s ends)) (r : Record) (p : ℕ) (h : p < mostPoints) where
+module _ (rs : List Record) (n s : ℕ) (ends : List End) (w : LinksOf rs (linksAs n s ends)) (r : Record) (p : ℕ) (h : p < mostPoints) where
   abbrev place : ℕ
   place = r .b % mostPoints
 
@@ -104,20 +105,21 @@ module _ (rs : List Record) (s : ℕ) (ends : List End) (w : LinksOf rs (linksAs
   by-fresh true e = put e (ℕ-discrete p (r .b))
   by-fresh false e = rw (set-getD ends place noEnd, kept e (is link r) (eqb p (r .b)) refl refl) (w .ends p h)
 
-module _ (rs : List Record) (s : ℕ) (ends : List End) (w : LinksOf rs (linksAs s ends)) (r : Record) where
-  pub links-more : LinksOf (rs ++ (r ∷ [])) (linksAs (watchedAfter r s) (set ends (r .b % mostPoints) (endAfter r s (getD ends (r .b % mostPoints) noEnd))))
+module _ (rs : List Record) (n s : ℕ) (ends : List End) (w : LinksOf rs (linksAs n s ends)) (r : Record) where
+  pub links-more : LinksOf (rs ++ (r ∷ [])) (linksAs (n + one (is point r)) (watchedAfter r s) (set ends (r .b % mostPoints) (endAfter r s (getD ends (r .b % mostPoints) noEnd))))
   links-more =
       record {
+        points = rw (many-snoc (is point) rs r, w .points);
         long = simp length-set (w .long);
         fits = fits-by (is link r) s (r .b) (w .fits);
         watches = λ p h. rw (some-snoc (endsAt p) rs r) (watched-by s r p h (watched rs p) (w .watches p h) (is link r) (ltb (r .b) mostPoints) refl refl);
-        ends = λ p h. by-fresh rs s ends w r p h (fresh rs s ends w r p h) refl;
+        ends = λ p h. by-fresh rs n s ends w r p h (fresh rs n s ends w r p h) refl;
       }
 
 -- a turn of the loop: the record at place i of rs
-pub links-turn : (rs : List Record) (i : ℕ) (s : ℕ) (ends : List End) → LinksOf (take i rs) (linksAs s ends) → i < length rs → (r : Record) → getD rs i blank ≡ r
-    → LinksOf (take (i + 1) rs) (linksAs (watchedAfter r s) (set ends (r .b % mostPoints) (endAfter r s (getD ends (r .b % mostPoints) noEnd))))
-links-turn rs i s ends w h r e = rw (one-more rs i h, e) (links-more (take i rs) s ends w r)
+pub links-turn : (rs : List Record) (i : ℕ) (n s : ℕ) (ends : List End) → LinksOf (take i rs) (linksAs n s ends) → i < length rs → (r : Record) → getD rs i blank ≡ r
+    → LinksOf (take (i + 1) rs) (linksAs (n + one (is point r)) (watchedAfter r s) (set ends (r .b % mostPoints) (endAfter r s (getD ends (r .b % mostPoints) noEnd))))
+links-turn rs i n s ends w h r e = rw (one-more rs i h, e) (links-more (take i rs) n s ends w r)
 
 -- ---- the link that ends at a watched point
 

@@ -8,7 +8,7 @@ use lib.ListN.{length, getD}
 use Rattle.points.specs.Sets.{member, membersOf, withOf, every}
 use Rattle.plan.specs.Choice.{if_then_else_}
 use Rattle.plan.specs.Limits.{mostPoints}
-use Rattle.plan.specs.APlan.{link, is, watched, linkTo}
+use Rattle.plan.specs.APlan.{link, is, points, watched, linkTo}
 use Rattle.records.specs.declared.Record.{Record}
 use Rattle.history.specs.History.{minuteIn, shortest, longest, each, notLate}
 use Rattle.links.specs.Ending.{endsRunning, inTime}
@@ -34,8 +34,9 @@ watchedAfter r s = if is link r then withOf s (r .b) else s
 abbrev pub endAfter : Record → ℕ → End → End
 endAfter r s e = if is link r && (ltb (r .b) mostPoints && not (member s (r .b))) then endIn r else e
 
--- l has the watched points of the records rs and the link of each
+-- l has the watched points of the records rs and the link of each, and how many points there are
 pub record LinksOf (rs : List Record) (l : Links) : Type 0 where
+  pub points : l .points ≡ points rs
   pub long : length (l .ends) ≡ mostPoints
   pub fits : l .watched < 2 ^ 32
   pub watches : (p : ℕ) → p < mostPoints → member (l .watched) p ≡ watched rs p

@@ -1,5 +1,5 @@
 // The links of a plan by the points that they end at, found in one pass over its records: which points are watched, and
-// of the link that ends at each, its A, its x and its y. Takes any plan; of two links to one point the first counts, and
+// of the link that ends at each, its A, its x and its y; and how many points there are. Takes any plan; of two links to one point the first counts, and
 // a link to a point past the last place is passed over. An inner room: it serves `board` and the crates around it.
 ghost use mathlib.Core.Path.{_≡_};
 ghost use Rattle.plan.specs.APlan.{recordsOf};
@@ -10,12 +10,14 @@ mod sets;
 use history::ROOM;
 use history::used;
 use plan::LINK;
+use plan::POINT;
 use plan::Plan;
 use plan::Record;
 use plan::split;
 use points::MOST;
 use points::has;
 use points::with;
+use records::one_if;
 pub use sets::set_number;
 
 // The reply numbers 24 to 27.
@@ -34,8 +36,9 @@ pub struct End {
     pub longest: u32,
 }
 
-// The watched points, and the link of each.
+// The watched points, and the link of each; and how many points the plan has, so that who has the links need not count them.
 pub struct Links {
+    pub points: u32,
     pub watched: u32,
     pub ends: [End; ROOM],
 }
@@ -80,6 +83,7 @@ pub fn links_of(plan: Plan) -> Links
     };
     let mut ends = [none; ROOM];
     let mut watched: u32 = 0;
+    let mut points: u32 = 0;
     let mut i: usize = 0;
     while i < count {
         let r = plan.records[i];
@@ -87,9 +91,11 @@ pub fn links_of(plan: Plan) -> Links
         let end = ends[c];
         ends[c] = end_after(r, watched, end);
         watched = watched_after(r, watched);
+        points += one_if(r.kind == POINT);
         i += 1;
     }
     Links {
+        points: points,
         watched: watched,
         ends: ends,
     }

@@ -15,7 +15,7 @@ use native.Mathlib.Decide.{decLt}
 use Rattle.plan.specs.Choice.{if_then_else_}
 use Rattle.plan.specs.Limits.{mostPoints, mostRecords, farthest}
 use Rattle.plan.specs.APlan.{Kind, point, link, ordinary, wait, unknown, kindOf, byteOf, is, one, howMany, some, points, starts, watched, startsAt, endsAt, fromTo, firstThat, linkTo, blank, gapOf, recordsOf}
-use Rattle.plan.specs.ReplyNumbers.{after, isKnown, lastKind, numberOf, firstBad, refusal, checkOf}
+use Rattle.plan.specs.ReplyNumbers.{after, isKnown, lastKind, numberOf, firstBad, firstBadWith, refusal, checkOf, checkWith}
 use Rattle.plan.specs.Held.{plain}
 use Rattle.records.specs.declared.Record.{Record}
 use Rattle.plan.specs.declared.Plan.{Plan}
@@ -274,14 +274,14 @@ unfolding howMany
 kept-none = record { few = omega arith; each = λ i h. absurd (omega arith); twins = λ i j h k t. absurd (omega arith); order = λ i h. absurd (omega arith) }
 
 kept-all : (rs xs : List Record) → Kept rs → firstBad rs (map plain xs) .number ≡ 0 → Kept (rs ++ xs)
-unfolding firstBad
+unfolding firstBadWith
 kept-all rs [] w e = rw (append-nil rs) w
 kept-all rs (x ∷ xs) w e =
     let n : numberOf (after rs) x 0 ≡ 0 = Entries.passed (λ (x : Refusal). x .number) _ _ _ refl e in
     rw (append-snoc rs x xs) at (kept-all (rs ++ (x ∷ [])) xs (kept-more rs x n w) (rw n at e))
 
 none-refused : (p : Plan) → checkOf p .number ≡ 0 → firstBad [] (map plain (recordsOf p)) .number ≡ 0
-unfolding checkOf
+unfolding checkWith
 none-refused p e =
     let a = Entries.past (λ (x : Refusal). x .number) (eqb (p .count) 0) (refusal 1 0) _ (omega arith) e in
     Entries.past (λ (x : Refusal). x .number) (ltb mostRecords (p .count)) (refusal 3 0) _ (omega arith) (a .1) .1

@@ -9,7 +9,7 @@ use borrow.Author.Tests.{eqb-true, not-false}
 use Rattle.plan.specs.Choice.{if_then_else_}
 use Rattle.plan.specs.APlan.{Kind, point, link, ordinary, wait, unknown}
 use Rattle.plan.specs.PlanFile.{Entry}
-use Rattle.plan.specs.ReplyNumbers.{Before, isNought, isKnown, inOrder, roomFor, zeros, numberFor, numberOf, after, accepted, firstBad}
+use Rattle.plan.specs.ReplyNumbers.{Before, isNought, isKnown, inOrder, roomForWith, zeros, numberForWith, numberWith, after, accepted, firstBadWith}
 use Rattle.plan.specs.Held.{All}
 use Rattle.records.specs.declared.Record.{Record}
 use Rattle.plan.specs.declared.Refusal.{Refusal}
@@ -32,13 +32,13 @@ zero-byte ordinary r z k e = eqb-true z 0 (last (eqb (r .code) 0) _ (last (isNou
 zero-byte wait r z k e = eqb-true z 0 (last (eqb (r .code) 0) _ (last (isNought (r .second)) _ e))
 zero-byte unknown r z k e = absurd (true≢false (sym k))
 
--- An accepted record has byte 3 zero.
-pub plain-number : (k : Kind) (b : Before) (r : Record) (z : ℕ) → numberFor k b r z ≡ 0 → z ≡ 0
-unfolding numberFor
-plain-number k b r z e =
+-- An accepted record has byte 3 zero, whatever the limit m of ordinary ones.
+pub plain-number : (m : ℕ) (k : Kind) (b : Before) (r : Record) (z : ℕ) → numberForWith m k b r z ≡ 0 → z ≡ 0
+unfolding numberForWith
+plain-number m k b r z e =
     let known = past (λ (n : ℕ). n) (not (isKnown k)) 4 _ (omega arith) e in
     let order = past (λ (n : ℕ). n) (not (inOrder b r)) 5 _ (omega arith) (known .1) in
-    let room = past (λ (n : ℕ). n) (not (roomFor b k)) 6 _ (omega arith) (order .1) in
+    let room = past (λ (n : ℕ). n) (not (roomForWith m b k)) 6 _ (omega arith) (order .1) in
     let zeros = past (λ (n : ℕ). n) (not (zeros k r z)) 7 _ (omega arith) (room .1) in
     zero-byte k r z (not-false _ (known .0)) (not-false _ (zeros .0))
 
@@ -51,10 +51,10 @@ passed number n x y m e = go (eqb n 0) refl e
     go false t e = sym m ∙ e
 
 -- Entries of which none is bad all have byte 3 zero, and no place is named.
-pub none-bad : (rs : List Record) (es : List Entry) → firstBad rs es .number ≡ 0 → (firstBad rs es ≡ accepted) × All IsPlain es
-unfolding firstBad
-none-bad rs [] e = (refl, tt)
-none-bad rs (x ∷ es) e =
-    let n : numberOf (after rs) (x .what) (x .reserved) ≡ 0 = passed (λ (x : Refusal). x .number) _ _ _ refl e in
-    let h = none-bad (rs ++ (x .what ∷ [])) es (rw n at e) in
-    (rw n (h .0), (plain-number _ _ _ _ n, h .1))
+pub none-bad : (m : ℕ) (rs : List Record) (es : List Entry) → firstBadWith m rs es .number ≡ 0 → (firstBadWith m rs es ≡ accepted) × All IsPlain es
+unfolding firstBadWith
+none-bad m rs [] e = (refl, tt)
+none-bad m rs (x ∷ es) e =
+    let n : numberWith m (after rs) (x .what) (x .reserved) ≡ 0 = passed (λ (x : Refusal). x .number) _ _ _ refl e in
+    let h = none-bad m (rs ++ (x .what ∷ [])) es (rw n at e) in
+    (rw n (h .0), (plain-number m _ _ _ _ n, h .1))

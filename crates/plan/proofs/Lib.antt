@@ -3,7 +3,9 @@ pub mod Records
 mod Sofar
 pub mod Words
 pub mod Entries
+pub mod Limited
 pub mod RoundTrip
+pub mod OldFiles
 pub mod Accepted
 mod Pairing
 mod Lookup

@@ -5,93 +5,35 @@ use mathlib.Core.Path.{_≡_, refl, ap, sym, _∙_}
 use mathlib.Core.Logic.{_↔_}
 use mathlib.Core.Bool.{Bool, true, false, not}
 use mathlib.Core.List.{List, [], _++_, map, append-nil}
-use Prim.Native.Nat.{ℕ, zero, suc, _*_, _/_, _%_, _≤_}
+use Prim.Native.Nat.{ℕ, _*_, _≤_}
 use native.Mathlib.Omega.{arith}
 use lib.Dec.{eqb, ltb}
-use lib.ListN.{length, take, drop, length-map}
-use lib.Seq.{length-take-le, take-append-seam, take-at}
-use borrow.Author.Tests.{eqb-true, eqb-false, ltb-false, not-false, ne-eqb, le-ltb}
+use lib.ListN.{length, take, drop}
+use lib.Seq.{length-take-le, take-at}
+use borrow.Author.Tests.{eqb-true}
 use Rattle.plan.specs.Choice.{if_then_else_}
-use Rattle.plan.specs.Limits.{mostRecords, recordBytes}
+use Rattle.plan.specs.Limits.{mostOrdinary, mostRecords, recordBytes}
 use Rattle.plan.specs.APlan.{recordsOf, planOf}
-use Rattle.plan.specs.PlanFile.{Entry, entriesIn, fileOf}
-use Rattle.plan.specs.ReplyNumbers.{refusal, accepted, firstBad, refused, taken, readEntries, readOf, checkOf, writeOf, writtenOf}
+use Rattle.plan.specs.PlanFile.{entriesIn, fileOf}
+use Rattle.plan.specs.ReplyNumbers.{refusal, accepted, refused, taken, readOf, checkOf, checkWith, writeOf, writeWith, writtenOf, writtenWith}
 use Rattle.plan.specs.Held.{All, IsByte, Held, HeldPlan, plain, refusalIn, HasFile}
-use Rattle.records.specs.declared.Record.{Record}
 use Rattle.plan.specs.declared.Plan.{Plan}
-use Rattle.plan.specs.declared.Reading.{Reading}
-use Rattle.plan.specs.declared.Refusal.{Refusal}
-use Rattle.plan.proofs.Entries.{all-take, length-bytes, all-are-bytes, entries-back, IsPlain, plains, whats, length-entries, bytes-again, past, passed, none-bad}
-
--- ---- what reading and checking have in common
-
-abbrev recordsIn : List Entry → List Record
-recordsIn es = map (λ (e : Entry). e .what) es
-
--- n records, tested as the entries es
-abbrev verdict : ℕ → List Entry → Refusal
-verdict n es =
-    if eqb n 0 then refusal 1 0
-    else if ltb mostRecords n then refusal 3 0
-    else firstBad [] es
-
-abbrev answer : Refusal → List Record → Reading
-answer x rs = if eqb (x .number) 0 then taken rs else refused x
-
--- a verdict of number 0
-record Good (n : ℕ) (es : List Entry) : Type 0 where
-  some : 1 ≤ n
-  few : n ≤ mostRecords
-  same : verdict n es ≡ accepted
-  plain : All IsPlain es
-
-good : (n : ℕ) (es : List Entry) → verdict n es .number ≡ 0 → Good n es
-good n es e =
-    let a = past (λ (x : Refusal). x .number) (eqb n 0) (refusal 1 0) _ (omega arith) e in
-    let b = past (λ (x : Refusal). x .number) (ltb mostRecords n) (refusal 3 0) _ (omega arith) (a .1) in
-    let f = none-bad [] es (b .1) in
-    let nonzero = eqb-false n 0 (a .0) in
-    record {
-      some = omega arith;
-      few = ltb-false mostRecords n (b .0);
-      same = rw (a .0, b .0) (f .0);
-      plain = f .1;
-    }
-
-no-records : (n : ℕ) → eqb (recordBytes * n) 0 ≡ eqb n 0
-no-records zero = refl
-no-records (suc n) = rw (ne-eqb (recordBytes * suc n) 0 (omega arith), ne-eqb (suc n) 0 (omega arith))
-
-read-whole : (n : ℕ) (s : List ℕ) → length s ≡ recordBytes * n
-    → readOf s ≡ answer (verdict n (entriesIn n s)) (recordsIn (entriesIn n s))
-unfolding readOf
-read-whole n s l =
-    let m : recordBytes * n % recordBytes ≡ 0 = omega arith in
-    let q : recordBytes * n / recordBytes ≡ n = omega arith in
-    rw (l, m, q, no-records n) (go (eqb n 0) (ltb mostRecords n))
-  where
-    go : (a b : Bool)
-        → (if a then refused (refusal 1 0) else if b then refused (refusal 3 0) else readEntries (entriesIn n s))
-        ≡ answer (if a then refusal 1 0 else if b then refusal 3 0 else firstBad [] (entriesIn n s)) (recordsIn (entriesIn n s))
-    go true b = refl
-    go false true = refl
-    go false false = refl
+use Rattle.plan.proofs.Entries.{all-take, length-bytes, all-are-bytes, entries-back, whats}
+use Rattle.plan.proofs.Limited.{verdict, Good, good, same, read-whole}
+use Rattle.plan.proofs.Limited as Limited
+pub use Rattle.plan.proofs.Limited.{records-of-plan}
 
 -- ---- from a plan
 
--- The records that a plan made of some records has are those.
-pub records-of-plan : (rs : List Record) → recordsOf (planOf rs) ≡ rs
-records-of-plan rs = take-append-seam rs _
-
 -- Two plans of the same records get the same check: unused room counts for nothing.
 pub check-by-records : (p q : Plan) → p .count ≡ q .count → recordsOf p ≡ recordsOf q → checkOf p ≡ checkOf q
-unfolding checkOf
-check-by-records p q c r = λ i. verdict (c i) (map plain (r i))
+unfolding checkWith
+check-by-records p q c r = λ i. verdict mostOrdinary (c i) (map plain (r i))
 
 -- a plan that passes the check
-checked : (p : Plan) → checkOf p .number ≡ 0 → Good (p .count) (map plain (recordsOf p))
-unfolding checkOf
-checked p e = good (p .count) (map plain (recordsOf p)) e
+checked : (p : Plan) → checkOf p .number ≡ 0 → Good mostOrdinary (p .count) (map plain (recordsOf p))
+unfolding checkWith
+checked p e = good mostOrdinary (p .count) (map plain (recordsOf p)) e
 
 -- A plan that passes the check has a record, and no more records than there is room for.
 pub checked-count : (p : Plan) → checkOf p .number ≡ 0 → (1 ≤ p .count) × (p .count ≤ mostRecords)
@@ -99,8 +41,8 @@ checked-count p e = (checked p e .some, checked p e .few)
 
 -- A plan that passes the check is accepted, and no place is named.
 pub names-no-place : (p : Plan) → checkOf p .number ≡ 0 → checkOf p ≡ accepted
-unfolding checkOf
-names-no-place p e = checked p e .same
+unfolding checkWith
+names-no-place p e = same (checked p e)
 
 -- The records of a plan that a program can hold are such records.
 pub records-held : (p : Plan) → HeldPlan p → All Held (recordsOf p)
@@ -121,9 +63,9 @@ module _ (p : Plan) (h : HeldPlan p) (few : p .count ≤ mostRecords) where
 -- A plan by value gets what reading its records would give.
 pub reads-as-checked : (p : Plan) → HeldPlan p → p .count ≤ mostRecords
     → readOf (fileOf p) ≡ (if eqb (checkOf p .number) 0 then taken (recordsOf p) else refused (checkOf p))
-unfolding checkOf
+unfolding checkWith
 reads-as-checked p h few =
-    rw (read-whole (p .count) (fileOf p) (length-file p h few), entries-of-file p h few, whats (recordsOf p))
+    rw (read-whole mostOrdinary (p .count) (fileOf p) (length-file p h few), entries-of-file p h few, whats (recordsOf p))
 
 -- Reading a plan's file gives the number and the place that the check of the plan gives.
 pub check-is-reading : (p : Plan) → HeldPlan p → p .count ≤ mostRecords → refusalIn (readOf (fileOf p)) ≡ checkOf p
@@ -135,7 +77,7 @@ check-is-reading p h few = rw (reads-as-checked p h few) (go (eqb (checkOf p .nu
 
 -- a plan that is written has passed the check
 written : (p : Plan) (out : List ℕ) → writeOf p out .number ≡ 0 → checkOf p .number ≡ 0
-unfolding writeOf
+unfolding writeWith
 written p out e = go (eqb (checkOf p .number) 0) refl e
   where
     go : (b : Bool) → eqb (checkOf p .number) 0 ≡ b
@@ -147,7 +89,7 @@ written p out e = go (eqb (checkOf p .number) 0) refl e
 -- A written plan reads back as the same plan, whatever the buffer held before.
 pub written-reads-back : (p : Plan) → HeldPlan p → (out : List ℕ) → writeOf p out .number ≡ 0
     → readOf (take (recordBytes * p .count) (writtenOf p out)) ≡ taken (recordsOf p)
-unfolding writtenOf
+unfolding writtenWith
 written-reads-back p h out e =
     let c = written p out e in
     let few = checked p c .few in
@@ -160,53 +102,22 @@ written-reads-whole p h z out e = rw (written-reads-back p h out e) (sym z)
 
 -- ---- from a file
 
--- the entries of a file of whole records
-abbrev parts : List ℕ → List Entry
-parts s = entriesIn (length s / recordBytes) s
-
-module _ (s : List ℕ) (e : readOf s .number ≡ 0) where
-  whole : length s ≡ recordBytes * (length s / recordBytes)
-  unfolding readOf
-  whole =
-      let a = past (λ (x : Reading). x .number) (eqb (length s) 0) (refused (refusal 1 0)) _ (omega arith) e in
-      let b = past (λ (x : Reading). x .number) (not (eqb (length s % recordBytes) 0)) (refused (refusal 2 0)) _ (omega arith) (a .1) in
-      omega (arith, eqb-true (length s % recordBytes) 0 (not-false _ (b .0)))
-
-  found : Good (length s / recordBytes) (parts s)
-  found = good _ _ (passed (λ (x : Reading). x .number) _ _ _ refl (rw (read-whole _ s whole) at e))
-
-  planned : readOf s .plan ≡ planOf (recordsIn (parts s))
-  planned = rw (read-whole _ s whole, found .same)
-
-  read-count : readOf s .plan .count ≡ length s / recordBytes
-  read-count = rw (planned, length-map, length-entries)
-
-  read-records : recordsOf (readOf s .plan) ≡ recordsIn (parts s)
-  read-records = rw (planned, records-of-plan)
-
 -- What reading accepts passes the check.
 pub read-is-checked : (s : List ℕ) → readOf s .number ≡ 0 → checkOf (readOf s .plan) ≡ accepted
-unfolding checkOf
-read-is-checked s e =
-    (λ i. verdict (read-count s e i) (map plain (read-records s e i))) ∙ rw (plains _ (found s e .plain)) (found s e .same)
+read-is-checked s e = Limited.read-is-checked mostOrdinary s e
 
 -- Accepted bytes are sixteen for each record of the plan read.
 pub read-length : (s : List ℕ) → readOf s .number ≡ 0 → recordBytes * readOf s .plan .count ≡ length s
-read-length s e = rw (read-count s e) (sym (whole s e))
+read-length s e = Limited.read-length mostOrdinary s e
 
 -- Accepted bytes, read and written, are the same bytes.
 pub file-back : (s : List ℕ) → All IsByte s → readOf s .number ≡ 0 → fileOf (readOf s .plan) ≡ s
-file-back s b e = rw (read-records s e) (bytes-again _ s b (whole s e) (found s e .plain))
-
-write-accepts : (s out : List ℕ) → readOf s .number ≡ 0 → length s ≤ length out → writeOf (readOf s .plan) out ≡ accepted
-unfolding writeOf
-write-accepts s out e l = rw (read-is-checked s e, read-length s e, le-ltb (length out) (length s) l)
+file-back s b e = Limited.file-back mostOrdinary s e b
 
 -- Writing a plan that was read is accepted, and puts the bytes that were read over the front of the buffer.
 pub write-back : (s : List ℕ) → All IsByte s → readOf s .number ≡ 0 → (out : List ℕ) → length s ≤ length out
     → (writeOf (readOf s .plan) out ≡ accepted) × (writtenOf (readOf s .plan) out ≡ s ++ drop (length s) out)
-unfolding writtenOf
-write-back s b e out l = let w = write-accepts s out e l in (w, rw (w, file-back s b e, read-length s e))
+write-back s b e out l = Limited.write-back mostOrdinary s e b out l
 
 -- Two files of bytes that are read as the same plan are the same file.
 pub one-file : (s t : List ℕ) → All IsByte s → All IsByte t → readOf s .number ≡ 0 → readOf t .number ≡ 0

@@ -14,7 +14,7 @@ use Rattle.plan.specs.Choice.{if_then_else_}
 use Rattle.plan.specs.Limits.{mostPoints, mostRecords}
 use Rattle.plan.specs.APlan.{point, link, ordinary, wait, is, blank}
 use Rattle.plan.specs.PlanFile.{Entry}
-use Rattle.plan.specs.ReplyNumbers.{after, numberOf, firstBad, refusal, accepted}
+use Rattle.plan.specs.ReplyNumbers.{after, numberOf, firstBad, firstBadWith, refusal, accepted}
 use Rattle.plan.specs.Held.{plain}
 use Rattle.rules.specs.Inside.{Few, fresh, told, noEnding, withRecord, endingAfter, secondsAfter, oneOf}
 use Rattle.records.proofs.Records.{many-le}
@@ -33,11 +33,11 @@ module _ (rs : List Record) (e : Entry) (es : List Entry) where
   number = numberOf (after rs) (e .what) (e .reserved)
 
   bad-here : eqb number 0 ≡ false → firstBad rs (e ∷ es) ≡ refusal number (length rs)
-  unfolding firstBad
+  unfolding firstBadWith
   bad-here h = rw h
 
   good-here : eqb number 0 ≡ true → firstBad rs (e ∷ es) ≡ firstBad (rs ++ (e .what ∷ [])) es
-  unfolding firstBad
+  unfolding firstBadWith
   good-here h = rw h
 
 -- what the one-record reader's answer says of the number
@@ -72,7 +72,7 @@ module _ (es : List Entry) (i : ℕ) (s : Seen) (ends : List Ending) (seconds : 
 
   -- after the last entry nothing is bad
   pub sofar-end : length es ≤ i → accepted ≡ firstBad [] es
-  unfolding firstBad
+  unfolding firstBadWith
   sofar-end h = rw (drop-of-length-le es h) at (f .rest)
 
   module _ (h : i < length es) (next : Entry) (here : getD es i (plain blank) ≡ next) where

@@ -12,7 +12,7 @@ use Rattle.plan.specs.declared.Plan.{Plan}
 use Rattle.plan.specs.declared.Found.{Found}
 use Rattle.plan.specs.declared.Found.the-variants.{At, Nothing}
 pub use Rattle.numbers.specs.Numbers.{gapOf}
-pub use Rattle.records.specs.Records.{Kind, point, link, ordinary, wait, unknown, kindOf, most, byteOf, is, startsAt, endsAt, fromTo, one}
+pub use Rattle.records.specs.Records.{Kind, point, link, ordinary, wait, unknown, kindOf, mostWith, byteOf, is, startsAt, endsAt, fromTo, one}
 pub use Rattle.records.specs.Records.{points, links, starts, watched, leads, blank, linkTo}
 unfoldable pub use Rattle.records.specs.Records.{howMany, some, firstThat}
 

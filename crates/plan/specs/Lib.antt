@@ -7,4 +7,5 @@ pub mod PlanFile
 pub mod ReplyNumbers
 pub mod Haul
 pub mod Held
+pub mod OldFiles
 pub mod Inside

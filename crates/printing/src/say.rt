@@ -13,14 +13,16 @@ use stream::Sheet;
 use stream::TAIL;
 use stream::line_at;
 use stream::listed;
+use stream::ponds_of;
 
 // The list of an offer: a line for each point of the plan.
 fn list(plan: Plan, reply: Reply, lines: &mut [u8], out: Out) -> Out {
     let count = listed(plan);
+    let ponds = ponds_of(plan);
     let mut now = out;
     let mut i: u32 = 0;
     while i < count {
-        let line = line_at(plan, reply, i);
+        let line = line_at(ponds, reply, i);
         now = put(lines, now, line);
         i += 1;
     }
@@ -38,31 +40,41 @@ fn replied(plan: Plan, board: Board, lines: &mut [u8], out: Out) -> Out {
     list(plan, reply, lines, now)
 }
 
-// An event: in one line, or its reply number and then its board.
+// An event: one line, or, in full, its reply number.
 fn event(full: bool, sheet: Sheet, lines: &mut [u8], out: Out) -> Out {
-    let plan = sheet.plan;
     let taken = sheet.taken;
     if full {
-        let now = put(lines, out, text::reply_line(sheet.last, taken.number));
-        let board = taken.board;
-        return replied(plan, board, lines, now);
+        return put(lines, out, text::reply_line(sheet.last, taken.number));
     }
     put(lines, out, text::event_line(sheet.last, taken))
 }
 
-// A plan that is read: in full, its test and the fresh board.
+// A plan that is read: in full, its test.
 fn begun(full: bool, sheet: Sheet, lines: &mut [u8], out: Out) -> Out {
     if !full {
         return out;
     }
     let plan = sheet.plan;
-    let taken = sheet.taken;
-    let board = taken.board;
-    let now = put(lines, out, text::test_line(vee::test(plan)));
-    replied(plan, board, lines, now)
+    put(lines, out, text::test_line(vee::test(plan)))
 }
 
-// What there is to print after a record, or after the last.
+// In full, what the board is after a plan that is read and after an event. Apart from the lines before it, so that the plan test's
+// tables are not on the stack while a board is looked at.
+pub(crate) fn shown(full: bool, sheet: Sheet, lines: &mut [u8], out: Out) -> Out {
+    if !full {
+        return out;
+    }
+    let news = sheet.news;
+    if (news == BEGUN) | (news == EVENT) {
+        let plan = sheet.plan;
+        let taken = sheet.taken;
+        let board = taken.board;
+        return replied(plan, board, lines, out);
+    }
+    out
+}
+
+// What there is to print after a record, or after the last, but for the board.
 pub(crate) fn say(full: bool, sheet: Sheet, lines: &mut [u8], out: Out) -> Out {
     let news = sheet.news;
     if news == REFUSED {

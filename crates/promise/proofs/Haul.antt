@@ -6,7 +6,7 @@ use native.Mathlib.Omega.{arith}
 use Rattle.points.specs.Sets.{from, firstOr}
 use Rattle.plan.specs.Haul.{haul}
 use Rattle.plan.specs.APlan.{howMany, some, firstThat, recordsOf}
-use Rattle.plan.specs.ReplyNumbers.{checkOf, firstBad, numberFor, lastKind}
+use Rattle.plan.specs.ReplyNumbers.{checkOf, checkWith, firstBadWith, numberForWith, lastKind}
 use Rattle.board.specs.Boards.{each}
 use Rattle.vee.specs.declared.Answer.{Answer}
 use Rattle.vee.specs.declared.Answer.the-variants as answer
@@ -24,7 +24,7 @@ use Rattle.promise.proofs.TestYes.{yes-accepted, yes-finishes}
 
 -- Worked case 1, computed; so the contract of the test permits yes.
 says-yes : testOf haul ≡ answer.Yes 31
-unfolding testOf testFrom judgeOf firstFrom passes atOnce listed arcs spans spread projections many howMany some firstThat checkOf firstBad numberFor lastKind
+unfolding testOf testFrom judgeOf firstFrom passes atOnce listed arcs spans spread projections many howMany some firstThat checkWith firstBadWith numberForWith lastKind
 says-yes = refl
 
 haul-yes : Tested haul (answer.Yes 31)

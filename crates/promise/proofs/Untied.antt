@@ -17,7 +17,7 @@ use Rattle.plan.specs.Limits.{mostPoints, farthest}
 use Rattle.plan.specs.APlan.{howMany, some, firstThat, points, watched, linkTo, planOf, recordsOf}
 use Rattle.plan.specs.Haul.{aPoint, aLink, anOrdinary, aWait}
 use Rattle.plan.specs.Held.{All, IsByte}
-use Rattle.plan.specs.ReplyNumbers.{checkOf, firstBad, numberFor, lastKind}
+use Rattle.plan.specs.ReplyNumbers.{checkOf, checkWith, firstBadWith, numberForWith, lastKind}
 use Rattle.records.specs.declared.Record.{Record}
 use Rattle.plan.specs.declared.Plan.{Plan}
 use Rattle.plan.proofs.Accepted.{Accepted, accepted-plan}
@@ -55,7 +55,7 @@ abbrev rs : List Record
 rs = recordsOf untied
 
 ok : checkOf untied .number ≡ 0
-unfolding howMany some firstThat checkOf firstBad numberFor lastKind
+unfolding howMany some firstThat checkWith firstBadWith numberForWith lastKind
 ok = refl
 
 known : Accepted rs

@@ -1,4 +1,5 @@
--- The limits of document 01, one name for each. The code has the same names in capitals. Assumes nothing.
+-- The limits of document 01, with document 02, §2, for ordinary records, one name for each. The code has the same names in capitals,
+-- and nothing else says their digits. Assumes nothing.
 use Prim.Native.Nat.{ℕ, _+_}
 
 abbrev pub mostPoints : ℕ
@@ -8,14 +9,17 @@ abbrev pub mostLinks : ℕ
 mostLinks = 8
 
 abbrev pub mostOrdinary : ℕ
-mostOrdinary = 256
+mostOrdinary = 1_024
 
 abbrev pub mostWaits : ℕ
 mostWaits = 64
 
--- a file has room for as many records as there can be of all four kinds
+-- a file has room for as many records as there can be of all four kinds, where m of them may be ordinary
+abbrev pub recordsWith : ℕ → ℕ
+recordsWith m = mostPoints + mostLinks + m + mostWaits
+
 abbrev pub mostRecords : ℕ
-mostRecords = mostPoints + mostLinks + mostOrdinary + mostWaits
+mostRecords = recordsWith mostOrdinary
 
 -- no duration and no bound is further from 0 than this
 abbrev pub farthest : ℕ

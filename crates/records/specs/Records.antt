@@ -5,7 +5,7 @@ use Prim.Native.Nat.{ℕ, _+_}
 use lib.Dec.{eqb}
 use lib.IntN.{pos}
 use Rattle.numbers.specs.Choice.{if_then_else_}
-use Rattle.records.specs.Limits.{mostPoints, mostLinks, mostOrdinary, mostWaits}
+use Rattle.records.specs.Limits.{mostPoints, mostLinks, mostWaits}
 use Rattle.records.specs.declared.Record.{Record}
 
 pub data Kind : Type 0 where
@@ -24,13 +24,13 @@ kindOf k =
     else if eqb k 4 then wait
     else unknown
 
--- how many records of a kind a plan may have
-abbrev pub most : Kind → ℕ
-most point = mostPoints
-most link = mostLinks
-most ordinary = mostOrdinary
-most wait = mostWaits
-most unknown = 0
+-- how many records of a kind a plan may have, where m is the limit of ordinary ones
+abbrev pub mostWith : ℕ → Kind → ℕ
+mostWith m point = mostPoints
+mostWith m link = mostLinks
+mostWith m ordinary = m
+mostWith m wait = mostWaits
+mostWith m unknown = 0
 
 -- the byte that names a kind
 abbrev pub byteOf : Kind → ℕ

@@ -19,7 +19,7 @@ pub const MOST_POINTS: u32 = 32;
 
 pub const MOST_LINKS: u32 = 8;
 
-pub const MOST_ORDINARY: u32 = 256;
+pub const MOST_ORDINARY: u32 = 1_024;
 
 pub const MOST_WAITS: u32 = 64;
 

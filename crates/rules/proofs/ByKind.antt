@@ -4,14 +4,14 @@ use mathlib.Core.Bool.{true}
 use Prim.Native.Nat.{ℕ}
 use borrow.Author.Tests.{ne-eqb}
 use Rattle.records.specs.Records.{Kind, unknown, kindOf}
-use Rattle.rules.specs.OneRecord.{Before, isKnown, numberFor, numberOf}
+use Rattle.rules.specs.OneRecord.{Before, isKnown, numberFor, numberForWith, numberOf}
 use Rattle.rules.specs.Inside.{keptOf, brokenOf}
 use Rattle.records.specs.declared.Record.{Record}
 use Rattle.rules.specs.declared.Kept.{Kept}
 
 module _ (k : Kind) (b : Before) (r : Record) (z : ℕ) where
   of-kind : isKnown k ≡ true → brokenOf (keptOf k b r z) ≡ numberFor k b r z
-  unfolding brokenOf numberFor
+  unfolding brokenOf numberForWith
   of-kind h = rw h
 
   -- the number of a record of a kind that is known
@@ -24,5 +24,5 @@ is-unknown k a b c d = rw (ne-eqb k 1 a, ne-eqb k 2 b, ne-eqb k 3 c, ne-eqb k 4 
 
 -- and the number of a record of such a kind
 pub not-known : (b : Before) (r : Record) (z : ℕ) → kindOf (r .kind) ≡ unknown → 4 ≡ numberOf b r z
-unfolding numberFor
+unfolding numberForWith
 not-known b r z e = rw e

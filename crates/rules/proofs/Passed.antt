@@ -5,7 +5,7 @@ use Prim.Native.Nat.{ℕ, suc}
 use native.Mathlib.Omega.{arith}
 use Rattle.numbers.specs.Choice.{if_then_else_}
 use Rattle.records.specs.Records.{Kind}
-use Rattle.rules.specs.OneRecord.{Before, isKnown, inOrder, roomFor, zeros, named, apart, single, joined, bounded, numberFor}
+use Rattle.rules.specs.OneRecord.{Before, isKnown, inOrder, roomFor, zeros, named, apart, single, joined, bounded, numberFor, numberForWith}
 use Rattle.records.specs.declared.Record.{Record}
 
 pub record Passed (k : Kind) (b : Before) (r : Record) (z : ℕ) : Type 0 where
@@ -25,7 +25,7 @@ step true n x e = (refl, e)
 step false n x e = absurd (omega arith)
 
 pub passed : (k : Kind) (b : Before) (r : Record) (z : ℕ) → numberFor k b r z ≡ 0 → Passed k b r z
-unfolding numberFor
+unfolding numberForWith
 passed k b r z e =
     let s4 = step (isKnown k) 3 _ e in
     let s5 = step (inOrder b r) 4 _ (s4 .1) in

@@ -14,7 +14,7 @@ use Rattle.points.proofs.Laws.{member-with, member-empty}
 use Rattle.numbers.specs.Choice.{if_then_else_}
 use Rattle.records.specs.Limits.{mostPoints}
 use Rattle.records.specs.Records.{Kind, point, link, ordinary, wait, unknown, kindOf, byteOf, is, one, howMany, some, points, starts, watched, startsAt, endsAt, fromTo, leads, firstThat, linkTo}
-use Rattle.rules.specs.OneRecord.{Before, after, isKnown, lastKind, inOrder, roomFor, zeros, named, apart, single, joined, bounded, numberFor, numberOf}
+use Rattle.rules.specs.OneRecord.{Before, after, isKnown, lastKind, inOrder, roomFor, zeros, named, apart, single, joined, bounded, numberFor, numberForWith, numberOf}
 use Rattle.rules.specs.Inside.{told, noEnding, fresh, withRecord, endingAfter, secondsAfter}
 use Rattle.rules.proofs.ByKind.{is-unknown}
 use Rattle.rules.proofs.Passed.{Passed, passed}
@@ -113,7 +113,7 @@ module _ (rs : List Record) (s : Seen) (ends : List Ending) (seconds : List ℕ)
         rw (e, w .links (r .b) b-below, w .end (r .b) b-below, w .end (r .a) a-below)
 
   same : (k : Kind) → numberFor k kept r z ≡ numberFor k (after rs) r z
-  unfolding numberFor
+  unfolding numberForWith
   same unknown = refl
   same point = rw (w .last, w .many-points)
   same ordinary =

@@ -8,8 +8,8 @@ use lib.IntN.{ℤ, pos, negℤ}
 use lib.Signed.{leZ, ltZ}
 use Rattle.numbers.specs.Choice.{if_then_else_}
 use Rattle.numbers.specs.Numbers.{isNought}
-use Rattle.records.specs.Limits.{farthest}
-use Rattle.records.specs.Records.{Kind, point, link, ordinary, wait, unknown, kindOf, is, most, howMany, starts, watched, leads, linkTo}
+use Rattle.records.specs.Limits.{mostOrdinary, farthest}
+use Rattle.records.specs.Records.{Kind, point, link, ordinary, wait, unknown, kindOf, is, mostWith, howMany, starts, watched, leads, linkTo}
 use Rattle.records.specs.declared.Record.{Record}
 
 -- what the records before a record have said, as far as the rules ask for it
@@ -56,9 +56,12 @@ isKnown unknown = false
 abbrev pub inOrder : Before → Record → Bool
 inOrder b r = leb (b .last) (r .kind)
 
--- 6: there is room for one more of its kind
+-- 6: there is room for one more of its kind, where m ordinary ones are allowed
+abbrev pub roomForWith : ℕ → Before → Kind → Bool
+roomForWith m b k = ltb (b .many k) (mostWith m k)
+
 abbrev pub roomFor : Before → Kind → Bool
-roomFor b k = ltb (b .many k) (most k)
+roomFor b k = roomForWith mostOrdinary b k
 
 -- 7: the fields that the table shows as 0 are 0, byte 3 too
 abbrev pub zeros : Kind → Record → ℕ → Bool
@@ -109,12 +112,13 @@ bounded b ordinary r = leZ (negℤ (pos farthest)) (r .first) && leZ (r .first) 
 bounded b wait r = leZ (pos 1) (r .first) && leZ (r .first) (b .longest (r .b))
 bounded b unknown r = true
 
--- 4 to 11 in order, with 15 after 9, for a record r of kind k with byte 3 z, after records that said b
-unfoldable pub numberFor : Kind → Before → Record → ℕ → ℕ
-numberFor k b r z =
+-- 4 to 11 in order, with 15 after 9, for a record r of kind k with byte 3 z, after records that said b, where m ordinary ones are
+-- allowed
+unfoldable pub numberForWith : ℕ → Kind → Before → Record → ℕ → ℕ
+numberForWith m k b r z =
     if not (isKnown k) then 4
     else if not (inOrder b r) then 5
-    else if not (roomFor b k) then 6
+    else if not (roomForWith m b k) then 6
     else if not (zeros k r z) then 7
     else if not (named b k r) then 8
     else if not (apart k r) then 9
@@ -123,5 +127,12 @@ numberFor k b r z =
     else if not (bounded b k r) then 11
     else 0
 
+abbrev pub numberWith : ℕ → Before → Record → ℕ → ℕ
+numberWith m b r z = numberForWith m (kindOf (r .kind)) b r z
+
+-- the same with the limit that holds
+abbrev pub numberFor : Kind → Before → Record → ℕ → ℕ
+numberFor k b r z = numberForWith mostOrdinary k b r z
+
 abbrev pub numberOf : Before → Record → ℕ → ℕ
-numberOf b r z = numberFor (kindOf (r .kind)) b r z
+numberOf b r z = numberWith mostOrdinary b r z

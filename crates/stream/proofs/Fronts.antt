@@ -13,7 +13,7 @@ use lib.Seq.{length-take-le}
 use borrow.Author.Tests.{lt-ltb, le-ltb, ne-eqb}
 use Rattle.plan.specs.Choice.{if_then_else_}
 use Rattle.plan.specs.Limits.{mostRecords, recordBytes}
-use Rattle.plan.specs.ReplyNumbers.{readOf, refused, refusal}
+use Rattle.plan.specs.ReplyNumbers.{readOf, readWith, refused, refusal}
 use Rattle.plan.specs.declared.Reading.{Reading}
 use Rattle.stream.specs.Sheets.{shown, readFront}
 
@@ -26,7 +26,7 @@ abbrev byRest : ℕ → Reading
 byRest r = if not (eqb r 0) then refused (refusal 2 0) else refused (refusal 3 0)
 
 long-read : (s : List ℕ) → long ≤ length s → readOf s ≡ byRest (length s % recordBytes)
-unfolding readOf
+unfolding readWith
 long-read s h = rw (ne-eqb (length s) 0 (λ e. omega (arith, e)), lt-ltb mostRecords (length s / recordBytes) (omega arith))
 
 module _ (bs front : List ℕ) (room : recordBytes * (mostRecords + 2) ≤ length front) where

@@ -2,3 +2,5 @@
 mod Fronts
 mod Marks
 mod Stages
+mod Ponds
+pub mod AtOnce

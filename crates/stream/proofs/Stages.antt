@@ -9,8 +9,10 @@ use borrow.Author.Tests.{eq-eqb, ne-eqb}
 use Rattle.plan.specs.ReplyNumbers.{readOf}
 use Rattle.plan.specs.declared.Reading.{Reading}
 use Rattle.board.specs.Events.{taken, takeOf}
+use Rattle.board.specs.Streams.{manyIn, takeAllOf}
 use Rattle.board.specs.declared.Taken.{Taken}
-use Rattle.stream.specs.Sheets.{shown, readFront, begins, begunOf, turned, playing, over, begun, refused, event, playedOf, tail, quiet, endedOf}
+use Rattle.stream.specs.Sheets.{shown, readFront, begins, begunOf, turned, playing, over, begun, refused, nothing, event, playedOf, tail, quiet, endedOf}
+use Rattle.stream.specs.Many.{allPlayedOf}
 use Rattle.stream.specs.declared.sheet.Sheet.{Sheet}
 
 -- the part of the buffer that is read
@@ -29,6 +31,11 @@ begins-refused s front {r} e h = rw (ne-eqb (r .number) 0 h) refl ∙ ap (begins
 pub played-by : (s : Sheet) (bytes : List ℕ) {t : Taken} {n : ℕ} → t ≡ takeOf (s .plan) (s .taken .board) bytes → n ≡ (s .events + 1) % 2 ^ 64
     → record { stage = s .stage; news = event; length = s .length; events = n; last = s .events; plan = s .plan; taken = t } ≡ playedOf s bytes
 played-by s bytes et en = rw (et, en)
+
+-- some events at once
+pub all-played-by : (s : Sheet) (bytes room : List ℕ) {t : Taken} {k n : ℕ} → t ≡ takeAllOf (s .plan) (s .taken .board) bytes room → k ≡ manyIn bytes room → n ≡ (s .events + k) % 2 ^ 64
+    → record { stage = s .stage; news = nothing; length = s .length; events = n; last = s .last; plan = s .plan; taken = t } ≡ allPlayedOf s bytes room
+all-played-by s bytes room et ek en = rw (et, en, ek)
 
 -- the end, not in the plan part: an unfinished record among the events, or nothing
 pub ended-tail : (s : Sheet) (n : ℕ) (front : List ℕ) → (s .stage ≡ 0 → ⊥) → (not (eqb n 0) && eqb (s .stage) playing) ≡ true

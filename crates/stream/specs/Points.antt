@@ -1,6 +1,9 @@
 -- The line of one point in the list of an offer. Assumes nothing.
-use Prim.Native.Nat.{ℕ}
-use lib.ListN.{getD}
+use mathlib.Core.Path.{_≡_}
+use mathlib.Core.List.{List}
+use Prim.Native.Nat.{ℕ, _<_}
+use lib.ListN.{length, getD}
+use Rattle.plan.specs.Limits.{mostPoints}
 use Rattle.plan.specs.APlan.{blank}
 use Rattle.plan.specs.declared.Plan.{Plan}
 use Rattle.replies.specs.declared.Place.{Place}
@@ -13,6 +16,11 @@ use Rattle.lines.specs.declared.Line.{Line}
 abbrev pub nowhere : Place
 nowhere = record { state = Done 0 }
 
--- point I, the pond of the plan's I-th record, and what the offer says of the point
-abbrev pub lineAt : Plan → Reply → ℕ → Line
-lineAt p r i = pointLine i (getD (p .records) i blank .code) (getD (r .places) i nowhere)
+-- the pond codes of the plan's first records, one for each point that there can be
+pub record PondsOf (p : Plan) (ponds : List ℕ) : Type 0 where
+  pub long : length ponds ≡ mostPoints
+  pub each : (i : ℕ) → i < mostPoints → getD ponds i 0 ≡ getD (p .records) i blank .code
+
+-- point I, its pond, and what the offer says of the point
+abbrev pub lineAt : List ℕ → Reply → ℕ → Line
+lineAt ponds r i = pointLine i (getD ponds i 0) (getD (r .places) i nowhere)

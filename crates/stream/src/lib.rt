@@ -3,13 +3,17 @@
 // programs: some functions have a `requires`, which every caller is proved to meet.
 mod bytes;
 mod list;
+mod many;
 mod sheet;
 
 pub use bytes::behind;
 pub use bytes::fits;
 pub use bytes::within;
+pub use list::ROOM;
 pub use list::line_at;
 pub use list::listed;
+pub use list::ponds_of;
+pub use many::said_line;
 pub use sheet::BEGUN;
 pub use sheet::EVENT;
 pub use sheet::PLAYING;

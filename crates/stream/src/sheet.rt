@@ -20,7 +20,7 @@ pub const PLAYING: u8 = 1;
 const OVER: u8 = 2;
 
 // What there is to print: nothing; a refused plan; a plan that is read; an event; an unfinished last record.
-const NOTHING: u8 = 0;
+pub(crate) const NOTHING: u8 = 0;
 
 pub const REFUSED: u8 = 1;
 

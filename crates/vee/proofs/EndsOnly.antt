@@ -6,7 +6,7 @@ use Prim.Native.Nat.{ℕ}
 use lib.IntN.{pos, negsuc}
 use lib.ListN.{getD}
 use Rattle.plan.specs.APlan.{planOf, points, howMany, some, firstThat}
-use Rattle.plan.specs.ReplyNumbers.{checkOf, firstBad, numberFor, lastKind}
+use Rattle.plan.specs.ReplyNumbers.{checkWith, firstBadWith, numberForWith, lastKind}
 use Rattle.plan.specs.Haul.{aPoint, aLink, anOrdinary, aWait}
 use Rattle.records.specs.declared.Record.{Record}
 use Rattle.vee.specs.declared.Answer.{Answer}
@@ -42,5 +42,5 @@ pub record EndsOnly : Type 0 where
   pub inside : testOf (planOf insideRecords) ≡ Pair 1 2 3
 
 pub ends-only : EndsOnly
-unfolding testOf testFrom judgeOf firstFrom passes atOnce listed arcs spans spread projections many howMany some firstThat checkOf firstBad numberFor lastKind
+unfolding testOf testFrom judgeOf firstFrom passes atOnce listed arcs spans spread projections many howMany some firstThat checkWith firstBadWith numberForWith lastKind
 ends-only = record { shortest = refl; longest = refl; inside = refl }

@@ -11,7 +11,7 @@ use lib.ListN.{length, getD}
 use borrow.Author.Tests.{ltb-true, leb-true, eqb-true, not-true}
 use Rattle.plan.specs.Limits.{mostPoints, farthest}
 use Rattle.plan.specs.APlan.{point, link, ordinary, wait, unknown, kindOf, is, howMany, watched, linkTo, blank, gapOf}
-use Rattle.plan.specs.ReplyNumbers.{after, numberOf, firstBad}
+use Rattle.plan.specs.ReplyNumbers.{after, numberOf, firstBad, firstBadWith}
 use Rattle.plan.specs.Held.{plain}
 use Rattle.records.specs.declared.Record.{Record}
 use Rattle.rules.proofs.Passed.{Passed, passed}
@@ -26,7 +26,7 @@ pub data Valid : List Record → List Record → Type 0 where
   one-more : {pre : List Record} {r : Record} {rs : List Record} → Passed (kindOf (r .kind)) (after pre) r 0 → Valid (pre ++ (r ∷ [])) rs → Valid pre (r ∷ rs)
 
 pub valid : (pre rs : List Record) → firstBad pre (map plain rs) .number ≡ 0 → Valid pre rs
-unfolding firstBad
+unfolding firstBadWith
 valid pre [] e = no-more
 valid pre (r ∷ rs) e = go (numberOf (after pre) r 0) refl (λ h. valid (pre ++ (r ∷ [])) rs h)
   where

@@ -13,7 +13,7 @@ use Rattle.plan.specs.APlan.{point, link, is, howMany, blank, recordsOf}
 use Rattle.records.specs.declared.Record.{Record}
 use Rattle.plan.specs.declared.Plan.{Plan}
 use Rattle.plan.specs.declared.Refusal.{Refusal}
-use Rattle.plan.specs.ReplyNumbers.{checkOf}
+use Rattle.plan.specs.ReplyNumbers.{checkOf, checkWith}
 use Rattle.vee.specs.declared.Answer.{Answer}
 use Rattle.vee.specs.declared.Answer.the-variants as answer
 use Rattle.rows.specs.Sheet.{by}
@@ -133,7 +133,7 @@ module _ (rs : List Record) (v : Valid [] rs) (s : List ℕ) (out : LaidOut rs s
 
 -- a plan that is not refused
 pub accepted-plan : (p : Plan) → checkOf p .number ≡ 0 → (p .count ≤ mostRecords) × Valid [] (recordsOf p)
-unfolding checkOf
+unfolding checkWith
 accepted-plan p e = go (eqb (p .count) 0) refl (ltb mostRecords (p .count)) refl
   where
     go : (a : Bool) → eqb (p .count) 0 ≡ a → (b : Bool) → ltb mostRecords (p .count) ≡ b → (p .count ≤ mostRecords) × Valid [] (recordsOf p)

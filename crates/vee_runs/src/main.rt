@@ -105,16 +105,16 @@ fn inside() {
     answer(&bytes[..n]);
 }
 
-// 32 points, 8 links, 256 ordinary records and 64 waits at 4,096 projections: no plan is larger.
+// 32 points, 8 links, an ordinary record for each of their 992 ordered pairs and 64 waits, at 4,096 projections: no plan is larger.
 fn largest() {
-    let mut bytes = [0u8; 5760];
+    let mut bytes = [0u8; 17536];
     let n = io::read_full(0, &mut bytes);
     answer(&bytes[..n]);
 }
 
 // The same plan with the waits of one point a minute shorter: it fails at projection 3,968.
 fn largest_too_short() {
-    let mut bytes = [0u8; 5760];
+    let mut bytes = [0u8; 17536];
     let n = io::read_full(0, &mut bytes);
     answer(&bytes[..n]);
 }

@@ -23,8 +23,8 @@ use events::event_in;
 use events::is_formed;
 use history::Ask;
 use history::ROOM;
-use history::all_points;
 use history::every_record;
+use history::first_points;
 use links::Links;
 use links::set_number;
 use lowhigh::FARTHEST;
@@ -32,7 +32,6 @@ use lowhigh::lesser;
 use lowhigh::past;
 use plan::ACCEPTED;
 use plan::Plan;
-use plan::points_of;
 use points::MOST;
 use points::first;
 use points::has;
@@ -128,7 +127,7 @@ fn later_number(
     requires { ⌜ LinksOf (recordsOf plan) links × (clock ≤ lastMinute) ⌝ }
     ensures { λ n. ⌜ n ≡ laterNumber (recordsOf plan) clock done minutes w (now (event .entry)) ⌝ }
 {
-    if !is_formed(event, points_of(plan)) {
+    if !is_formed(event, links.points) {
         return NOT_FORMED;
     }
     let e = event_in(event);
@@ -148,7 +147,7 @@ pub fn event_number(
     requires { ⌜ Given plan links minutes × (clock ≤ lastMinute) ⌝ }
     ensures { λ n. ⌜ Numbered (recordsOf plan) clock done minutes (now (event .entry)) n ⌝ }
 {
-    if done == all_points(plan) {
+    if done == first_points(links.points) {
         return ALL_DONE;
     }
     let w = windows_of(plan, links, clock, done, minutes);

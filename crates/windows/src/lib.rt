@@ -13,7 +13,7 @@ pub use asks::event_number;
 pub use asks::is_stuck;
 pub use asks::latest_of;
 use history::ROOM;
-use history::all_points;
+use history::first_points;
 use links::Links;
 use lowhigh::NEVER;
 use lowhigh::lesser;
@@ -72,7 +72,7 @@ pub fn windows_of(plan: Plan, links: Links, clock: u32, done: u32, minutes: [u32
     let tables = tables_of(plan, links, clock, done, minutes);
     let lows = tables.lows;
     let highs = tables.highs;
-    let foremans = minus(all_points(plan), links.watched);
+    let foremans = minus(first_points(links.points), links.watched);
     let opens = minus(minus(foremans, done), tables.shut);
     let high = least_high(opens, highs);
     Windows {

@@ -8,7 +8,7 @@ use lib.Count.{ones}
 use lib.ListN.{set, replicate}
 use Rattle.plan.specs.Haul.{aPoint, aLink, anOrdinary, haul}
 use Rattle.plan.specs.APlan.{planOf, howMany, some, firstThat, recordsOf}
-use Rattle.plan.specs.ReplyNumbers.{refusal, checkOf, firstBad, numberFor, lastKind}
+use Rattle.plan.specs.ReplyNumbers.{refusal, checkWith, firstBadWith, numberForWith, lastKind}
 use Rattle.plan.specs.declared.Plan.{Plan}
 use Rattle.points.specs.Sets.{member, membersOf, withOf, belowOf, subsetOf, from, every, passing, firstOr}
 use Rattle.board.specs.Boards.{sound, each, largest}
@@ -95,14 +95,14 @@ first-of-equal = refl
 
 -- the longest drive is done at 60, the clock of its last event
 haul-finishes : finishing haul (set unset 2 50) ≡ 60
-unfolding runFrom eventsFrom leastOf setOf firstOr ones takeOf eventNumber boardAfter markAll sound each largest stateOf greatest least leastHigh member membersOf withOf belowOf subsetOf from every passing howMany some firstThat checkOf firstBad numberFor lastKind
+unfolding runFrom eventsFrom leastOf setOf firstOr ones takeOf eventNumber boardAfter markAll sound each largest stateOf greatest least leastHigh member membersOf withOf belowOf subsetOf from every passing howMany some firstThat checkWith firstBadWith numberForWith lastKind
 haul-finishes = refl
 
 -- ---- refusals
 
 -- points 0 and 1, link (0, 1, 4097, 1): 4,097 projections are one too many, and that comes before what the test would say
 wide-refused : refusedOf (planOf (aPoint 0 ∷ aPoint 1 ∷ aLink 0 1 4097 1 ∷ [])) ≡ refusal 13 0
-unfolding refusedOf testOf spans many howMany some firstThat checkOf firstBad numberFor lastKind
+unfolding refusedOf testOf spans many howMany some firstThat checkWith firstBadWith numberForWith lastKind
 wide-refused = refl
 
 -- ---- a projection by its number

@@ -13,11 +13,11 @@ use Rattle.links.proofs.links_of.Statement.{statement}
 use Rattle.links.proofs.links_of.Tie as tie
 
 abbrev Inv-loop : tie.InvT-loop
-Inv-loop plan count ends₀ watched₀ i₀ ends watched i =
-    (i ≤ count) × (count ≡ min (plan .count) mostRecords) × (length (plan .records) ≡ mostRecords) × LinksOf (take i (recordsOf plan)) (linksAs watched ends)
+Inv-loop plan count ends₀ watched₀ points₀ i₀ ends watched points i =
+    (i ≤ count) × (count ≡ min (plan .count) mostRecords) × (length (plan .records) ≡ mostRecords) × (points ≤ i) × LinksOf (take i (recordsOf plan)) (linksAs points watched ends)
 
 abbrev μ-loop : tie.MeasureT-loop
-μ-loop plan count ends₀ watched₀ i₀ ends watched i = count - i
+μ-loop plan count ends₀ watched₀ points₀ i₀ ends watched points i = count - i
 
 used-requires : tie.Need-used-requires Inv-loop μ-loop
 used-requires c κs = search needs
@@ -25,7 +25,7 @@ used-requires c κs = search needs
 loop-holds : tie.Need-loop-holds Inv-loop μ-loop
 loop-holds c =
     let g = c .before .good in
-    (omega arith, c .used .ensures, rw length-map at (g .0 .1 .1 .1 .0 .1 .0 .1), links-none)
+    (omega arith, c .used .ensures, rw length-map at (g .0 .1 .1 .1 .0 .1 .0 .1), omega arith, links-none)
 
 mul-r : tie.Need-mul-r Inv-loop μ-loop
 mul-r c = search needs
@@ -54,6 +54,12 @@ array-set-from-ends c = search needs
 watched-after-requires : tie.Need-watched-after-requires Inv-loop μ-loop
 watched-after-requires c κs = search needs
 
+one-if-requires : tie.Need-one-if-requires Inv-loop μ-loop
+one-if-requires c κs = search needs
+
+add-points : tie.Need-add-points Inv-loop μ-loop
+add-points c = let i = c .before .before .before .before .before .before .before .before .loop .inv in omega (arith, i .3, c .one-if .ensures .1)
+
 add-i : tie.Need-add-i Inv-loop μ-loop
 add-i c = search needs
 
@@ -62,17 +68,22 @@ loop-less c = search needs
 
 loop-again : tie.Need-loop-again Inv-loop μ-loop
 loop-again c =
-    let p = c .before .before .before .before .before .before .before .before .args .t1 in
-    let i = c .before .before .before .before .before .before .loop .inv in
-    let k = c .before .before .before .before .before .before .loop .i in
-    let w = next-record p (i .2) _ (i .1) k (c .before .before .before .before .before .loop-test .taken) in
-    (omega arith, i .1, i .2, rw (c .watched-after .ensures, c .before .end-after .ensures) (links-turn (recordsOf p) k _ _ (i .3) (w .0) _ (w .1)))
+    let p = c .before .before .before .before .before .before .before .before .before .before .args .t1 in
+    let i = c .before .before .before .before .before .before .before .before .loop .inv in
+    let k = c .before .before .before .before .before .before .before .before .loop .i in
+    let w = next-record p (i .2) _ (i .1) k (c .before .before .before .before .before .before .before .loop-test .taken) in (
+      omega arith,
+      i .1,
+      i .2,
+      omega (arith, i .3, c .one-if .ensures .1),
+      rw (c .one-if .ensures .0, c .before .before .watched-after .ensures, c .before .before .before .end-after .ensures) (links-turn (recordsOf p) k _ _ _ (i .4) (w .0) _ (w .1)),
+    )
 
 returns : tie.Need-returns Inv-loop μ-loop
 returns c =
     let p = c .before .before .before .args .t1 in
     let i = c .before .loop .inv in
-    rw (all-of (recordsOf p) (c .before .loop .i) (last-record p (i .2) _ (i .1) _ (c .loop-test .left))) at (i .3)
+    rw (all-of (recordsOf p) (c .before .loop .i) (last-record p (i .2) _ (i .1) _ (c .loop-test .left))) at (i .4)
 
 pub links-of-spec : {M : Type 1} → statement M
 links-of-spec =
@@ -91,6 +102,8 @@ links-of-spec =
     mul-ends
     array-set-from-ends
     watched-after-requires
+    one-if-requires
+    add-points
     add-i
     loop-less
     loop-again

@@ -2,7 +2,7 @@
 use borrow.Author.Needs.{needs}
 use borrow.Author.Tests.{eq-eqb, ne-eqb, lt-ltb, le-ltb}
 use mathlib.Core.Path.{_≡_, ap, _∙_}
-use Rattle.plan.specs.ReplyNumbers.{firstBad, readOf}
+use Rattle.plan.specs.ReplyNumbers.{firstBad, readWith}
 use Rattle.plan.specs.PlanFile.{entriesIn}
 use Prim.Native.Nat.{_/_}
 use mathlib.Core.List.{[]}
@@ -20,21 +20,21 @@ refuse-requires : tie.Need-refuse-requires
 refuse-requires c κs = search needs
 
 returns : tie.Need-returns
-unfolding readOf
+unfolding readWith
 returns c = rw (eq-eqb _ _ (c .before .if1 .taken)) (c .refuse .ensures)
 
 refuse-requires-2 : tie.Need-refuse-requires-2
 refuse-requires-2 c κs = search needs
 
 returns-2 : tie.Need-returns-2
-unfolding readOf
+unfolding readWith
 returns-2 c = rw (ne-eqb _ _ (c .before .before .if1 .left), ne-eqb _ _ (c .before .if2 .taken)) (c .refuse2 .ensures)
 
 refuse-requires-3 : tie.Need-refuse-requires-3
 refuse-requires-3 c κs = search needs
 
 returns-3 : tie.Need-returns-3
-unfolding readOf
+unfolding readWith
 returns-3 c = rw (ne-eqb _ _ (c .before .before .before .if1 .left), eq-eqb _ _ (c .before .before .if2 .left), lt-ltb _ _ (c .before .if3 .taken)) (c .refuse3 .ensures)
 
 decode-requires : tie.Need-decode-requires
@@ -50,7 +50,7 @@ refuse-requires-4 : tie.Need-refuse-requires-4
 refuse-requires-4 c κs = search needs
 
 returns-4 : tie.Need-returns-4
-unfolding readOf
+unfolding readWith
 returns-4 c =
     let s = c .before .before .before .before .before .before .before .before .before .before .before .args .bytes .now in
     let n = length s / recordBytes in
@@ -60,7 +60,7 @@ returns-4 c =
     rw (ne-eqb _ _ (c .before .before .before .before .before .before .before .before .before .if1 .left), eq-eqb _ _ (c .before .before .before .before .before .before .before .before .if2 .left), le-ltb _ _ (c .before .before .before .before .before .before .before .if3 .left), ← f, ne-eqb _ _ (c .before .if4 .taken)) (c .refuse4 .ensures)
 
 returns-5 : tie.Need-returns-5
-unfolding readOf
+unfolding readWith
 returns-5 c =
     let s = c .before .before .before .before .before .before .before .before .before .before .args .bytes .now in
     let n = length s / recordBytes in

@@ -11,14 +11,8 @@ Inv-loop full chunk₀ lines₀ sheet₀ out₀ left₀ turns₀ chunk lines she
 abbrev μ-loop : tie.MeasureT-loop
 μ-loop full chunk₀ lines₀ sheet₀ out₀ left₀ turns₀ chunk lines sheet out left turns = turns
 
-large-buffer-requires : tie.Need-large-buffer-requires Inv-loop μ-loop
-large-buffer-requires c κs = search needs
-
 slice-aggregate-chunk : tie.Need-slice-aggregate-chunk Inv-loop μ-loop
 slice-aggregate-chunk c = search needs
-
-large-buffer-requires-2 : tie.Need-large-buffer-requires-2 Inv-loop μ-loop
-large-buffer-requires-2 c κs = search needs
 
 slice-aggregate-lines : tie.Need-slice-aggregate-lines Inv-loop μ-loop
 slice-aggregate-lines c = search needs
@@ -47,6 +41,9 @@ ended-requires c κs = search needs
 say-requires : tie.Need-say-requires Inv-loop μ-loop
 say-requires c κs = search needs
 
+shown-requires : tie.Need-shown-requires Inv-loop μ-loop
+shown-requires c κs = search needs
+
 end-requires : tie.Need-end-requires Inv-loop μ-loop
 end-requires c κs = search needs
 
@@ -62,9 +59,7 @@ print-spec =
     (tie.spec
     Inv-loop
     μ-loop
-    large-buffer-requires
     slice-aggregate-chunk
-    large-buffer-requires-2
     slice-aggregate-lines
     new-requires
     loop-holds
@@ -74,6 +69,7 @@ print-spec =
     loop-again
     ended-requires
     say-requires
+    shown-requires
     end-requires
     flush-requires
     returns)

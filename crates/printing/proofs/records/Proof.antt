@@ -16,29 +16,8 @@ abbrev μ-loop : tie.MeasureT-loop
 loop-holds : tie.Need-loop-holds Inv-loop μ-loop
 loop-holds c = search needs
 
-mul-at : tie.Need-mul-at Inv-loop μ-loop
-mul-at c = search needs
-
-add-next : tie.Need-add-next Inv-loop μ-loop
-add-next c = search needs
-
-sub-next : tie.Need-sub-next Inv-loop μ-loop
-sub-next c = search needs
-
-part-next-start : tie.Need-part-next-start Inv-loop μ-loop
-part-next-start c = search needs
-
-part-next-end : tie.Need-part-next-end Inv-loop μ-loop
-part-next-end c = search needs
-
-next-requires : tie.Need-next-requires Inv-loop μ-loop
-next-requires c κs = search needs
-
-say-requires : tie.Need-say-requires Inv-loop μ-loop
-say-requires c κs = search needs
-
-add-i : tie.Need-add-i Inv-loop μ-loop
-add-i c = search needs
+step-requires : tie.Need-step-requires Inv-loop μ-loop
+step-requires c κs = search needs
 
 loop-less : tie.Need-loop-less Inv-loop μ-loop
 loop-less c = search needs
@@ -59,14 +38,7 @@ records-spec =
     Inv-loop
     μ-loop
     loop-holds
-    mul-at
-    add-next
-    sub-next
-    part-next-start
-    part-next-end
-    next-requires
-    say-requires
-    add-i
+    step-requires
     loop-less
     loop-again
     same-length

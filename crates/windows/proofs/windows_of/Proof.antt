@@ -9,8 +9,8 @@ use Rattle.windows.proofs.windows_of.Tie as tie
 tables-of-requires : tie.Need-tables-of-requires
 tables-of-requires c κs = search needs
 
-all-points-requires : tie.Need-all-points-requires
-all-points-requires c κs = search needs
+first-points-requires : tie.Need-first-points-requires
+first-points-requires c κs = search needs
 
 minus-requires : tie.Need-minus-requires
 minus-requires c κs = search needs
@@ -29,7 +29,7 @@ returns c =
     let s = c .before .before .before .before .before .before .before .before in
     let rs = recordsOf (s .args .plan) in
     let t = c .before .before .before .before .before .before .before .tables-of .ensures in
-    let one = rw (c .before .before .before .before .all-points .ensures) at (c .before .before .before .minus .ensures) in
+    let one = rw (c .before .before .before .before .first-points .ensures, s .pre .links .points) at (c .before .before .before .minus .ensures) in
     let opens = opens-here rs (s .args .done) (accepted-plan (s .args .plan) (s .pre .accepted) .few) _ (s .pre .links .watches) _ (t .shut-by) _ _ _ one (c .before .before .minus2 .ensures) (c .before .minus3 .ensures) in
     record {
       fits = c .before .minus3 .ensures .fits;
@@ -46,7 +46,7 @@ windows-of-spec =
     tie.close
     (tie.spec
     tables-of-requires
-    all-points-requires
+    first-points-requires
     minus-requires
     minus-requires-2
     minus-requires-3

@@ -8,13 +8,16 @@ use Rattle.printing.proofs.say.list.Statement.{statement}
 use Rattle.printing.proofs.say.list.Tie as tie
 
 abbrev Inv-loop : tie.InvT-loop
-Inv-loop plan reply lines₀ count now₀ i₀ lines now i = (i ≤ count) × (count ≤ mostPoints) × (length lines ≡ length lines₀)
+Inv-loop reply lines₀ count ponds now₀ i₀ lines now i = (i ≤ count) × (count ≤ mostPoints) × (length lines ≡ length lines₀)
 
 abbrev μ-loop : tie.MeasureT-loop
-μ-loop plan reply lines₀ count now₀ i₀ lines now i = count - i
+μ-loop reply lines₀ count ponds now₀ i₀ lines now i = count - i
 
 listed-requires : tie.Need-listed-requires Inv-loop μ-loop
 listed-requires c κs = search needs
+
+ponds-of-requires : tie.Need-ponds-of-requires Inv-loop μ-loop
+ponds-of-requires c κs = search needs
 
 loop-holds : tie.Need-loop-holds Inv-loop μ-loop
 loop-holds c = search needs
@@ -47,6 +50,7 @@ list-spec =
     Inv-loop
     μ-loop
     listed-requires
+    ponds-of-requires
     loop-holds
     line-at-requires
     put-requires

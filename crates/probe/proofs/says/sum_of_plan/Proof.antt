@@ -1,14 +1,15 @@
 -- `probe::says::sum_of_plan` is safe and ends. Assumes nothing.
 use borrow.Author.Needs.{needs}
 use Prim.Native.Nat.{_≤_, _-_}
+use Rattle.plan.specs.Limits.{mostRecords}
 use Rattle.probe.proofs.says.sum_of_plan.Statement.{statement}
 use Rattle.probe.proofs.says.sum_of_plan.Tie as tie
 
 abbrev Inv-loop : tie.InvT-loop
-Inv-loop plan sum₀ i₀ sum i = i ≤ 360
+Inv-loop plan sum₀ i₀ sum i = i ≤ mostRecords
 
 abbrev μ-loop : tie.MeasureT-loop
-μ-loop plan sum₀ i₀ sum i = 360 - i
+μ-loop plan sum₀ i₀ sum i = mostRecords - i
 
 loop-holds : tie.Need-loop-holds Inv-loop μ-loop
 loop-holds c = search needs

@@ -7,36 +7,34 @@ use Rattle.windows.specs.Inside.{laterNumber}
 use Rattle.windows.proofs.asks.later_number.Statement.{statement}
 use Rattle.windows.proofs.asks.later_number.Tie as tie
 
-points-of-requires : tie.Need-points-of-requires
-points-of-requires c κs = search needs
-
 is-formed-requires : tie.Need-is-formed-requires
 is-formed-requires c κs = search needs
 
 returns : tie.Need-returns
 unfolding laterNumber
 returns c =
-    let f = rw (c .before .is-formed .ensures, c .before .before .points-of .ensures) at (not-true (c .before .is-formed .result) (c .if1 .taken)) in
+    let f = rw (c .before .is-formed .ensures, c .before .before .before .pre .0 .points) at (not-true (c .before .is-formed .result) (c .if1 .taken)) in
     rw f
 
 event-in-requires : tie.Need-event-in-requires
 event-in-requires c κs =
     let f = rw (c .before .is-formed .ensures) at (not-false (c .before .is-formed .result) (c .if1 .left)) in
-    omega (arith, formed-length (c .before .before .points-of .result) (c .before .before .before .before .args .event .now) f)
+    let s = c .before .before .before .args in
+    omega (arith, formed-length (s .links .points) (s .event .now) f)
 
 latest-of-requires : tie.Need-latest-of-requires
-latest-of-requires c κs = c .before .before .before .before .before .pre .1
+latest-of-requires c κs = c .before .before .before .before .pre .1
 
 point-number-requires : tie.Need-point-number-requires
 point-number-requires c κs = search needs
 
 set-number-requires : tie.Need-set-number-requires
-set-number-requires c κs = c .before .before .before .before .before .before .before .pre .0
+set-number-requires c κs = c .before .before .before .before .before .before .pre .0
 
 returns-2 : tie.Need-returns-2
 unfolding laterNumber
 returns-2 c =
-    let f = rw (c .before .before .before .before .before .is-formed .ensures, c .before .before .before .before .before .before .points-of .ensures) at (not-false (c .before .before .before .before .before .is-formed .result) (c .before .before .before .before .if1 .left)) in
+    let f = rw (c .before .before .before .before .before .is-formed .ensures, c .before .before .before .before .before .before .before .pre .0 .points) at (not-false (c .before .before .before .before .before .is-formed .result) (c .before .before .before .before .if1 .left)) in
     let e = c .before .before .before .event-in .ensures .0 in
     rw (c .set-number .ensures, c .before .point-number .ensures, c .before .before .latest-of .ensures, e, f)
 
@@ -44,7 +42,6 @@ pub later-number-spec : {M : Type 1} → statement M
 later-number-spec =
     tie.close
     (tie.spec
-    points-of-requires
     is-formed-requires
     returns
     event-in-requires

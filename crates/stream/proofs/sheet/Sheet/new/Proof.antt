@@ -1,5 +1,5 @@
 -- `stream::sheet::Sheet::new` meets its contract. Assumes nothing.
-use Rattle.plan.specs.ReplyNumbers.{readOf}
+use Rattle.plan.specs.ReplyNumbers.{readWith}
 use borrow.Author.Needs.{needs}
 use Rattle.stream.proofs.sheet.Sheet.new.Statement.{statement}
 use Rattle.stream.proofs.sheet.Sheet.new.Tie as tie
@@ -14,7 +14,7 @@ fresh-requires : tie.Need-fresh-requires
 fresh-requires c κs = search needs
 
 returns : tie.Need-returns
-unfolding readOf
+unfolding readWith
 returns c = rw (c .fresh .ensures, c .before .before .read .ensures)
 
 pub new-spec : {M : Type 1} → statement M

@@ -1,32 +1,32 @@
-// Runs of the library `plan`: each reply number 1 to 12 at its exact edge and one step before it, plans by value, a plan
-// written and read back, and the lookups. One line for each case; what must come out is in the file stdout.
-mod file;
-mod reading;
+// Runs of the lookups of the library `plan`: the numbers of a signed one, how many points a plan has, and the link to a point, on
+// plans that a file can hold and on others. Standard input has two plan files: the haul, and a plan with two links. One line for
+// each case; what must come out is in the file stdout. Reading, checking and writing are run by `probe`, from compare/files.list.
+mod lookups;
 mod say;
-mod values;
+
+use plan::Plan;
+
+const HAUL: usize = plan::RECORD_BYTES * lookups::HAUL_RECORDS as usize;
+
+const TWO_LINKS: usize = plan::RECORD_BYTES * 7;
+
+fn haul() -> Plan {
+    let mut bytes = [0u8; HAUL];
+    let n = io::read_full(0, &mut bytes);
+    plan::read(&bytes[..n]).plan
+}
+
+fn two_links() -> Plan {
+    let mut bytes = [0u8; TWO_LINKS];
+    let n = io::read_full(0, &mut bytes);
+    plan::read(&bytes[..n]).plan
+}
 
 fn main() {
-    reading::lengths();
-    reading::known_kinds();
-    reading::kinds_in_order();
-    reading::counts();
-    reading::zeros_early();
-    reading::zeros_late();
-    reading::names_early();
-    reading::names_late();
-    reading::points_apart();
-    reading::twins();
-    reading::links_joined();
-    reading::waits_joined();
-    reading::link_bounds();
-    reading::ordinary_bounds();
-    reading::wait_bounds();
-    reading::first_bad();
-    values::checks();
-    values::writings();
-    values::round_trips();
-    values::rooms();
-    values::signed_numbers();
-    values::lookups();
-    values::odd_lookups();
+    lookups::signed_numbers();
+    let plan = haul();
+    lookups::of_the_haul(plan);
+    lookups::of_two_links(two_links());
+    lookups::odd_points(plan);
+    lookups::odd_links(plan);
 }

@@ -48,15 +48,13 @@ pub const OUT_OF_BOUNDS: u32 = 11;
 
 pub const TWIN: u32 = 15;
 
-// What the records so far have said: the kind of the last, how many of each kind, which points start a link and which
-// end one.
+// What the records so far have said: the kind of the last, how many of each kind, and which points end a link.
 pub struct Seen {
     pub kind: u8,
     pub points: u32,
     pub links: u32,
     pub ordinary: u32,
     pub waits: u32,
-    pub starts: u32,
     pub watched: u32,
 }
 
@@ -125,7 +123,6 @@ impl Seen {
             links: 0,
             ordinary: 0,
             waits: 0,
-            starts: 0,
             watched: 0,
         }
     }
@@ -162,7 +159,7 @@ impl Seen {
             named: self.names(r),
             apart: r.a != r.b,
             single: true,
-            joined: !has(self.starts, r.b) & (!has(self.watched, r.b) & !has(self.watched, r.a)),
+            joined: !has(self.watched, r.b),
             bounded: at_most(1, r.first) & (less(r.first, r.second) & at_most(r.second, FARTHEST)),
         }
     }
@@ -225,7 +222,6 @@ impl Seen {
             links: self.links + one_if(is_link),
             ordinary: self.ordinary + one_if(r.kind == ORDINARY),
             waits: self.waits + one_if(r.kind == WAIT),
-            starts: with_if(is_link, self.starts, r.a),
             watched: with_if(is_link, self.watched, r.b),
         }
     }

@@ -116,19 +116,19 @@ past-limit m m′ rs (x ∷ es) h l e =
     let a = append-snoc rs (x .what) (recordsIn es) in
     elim (number-fewer m m′ (after rs) (kindOf (x .what .kind)) (x .what) (x .reserved) n) [
       | inl g ↦
-        rw (g .1)
-        (rw a at (past-limit m m′ (rs ++ (x .what ∷ [])) es (still m rs (x .what) h (g .0)) (rw a l) (rw n at e)))
+          rw (g .1)
+          (rw a at (past-limit m m′ (rs ++ (x .what ∷ [])) es (still m rs (x .what) h (g .0)) (rw a l) (rw n at e)))
       | inr g ↦
-        let o = only-ordinary m m′ (after rs) (kindOf (x .what .kind)) (g .0) (g .1) in
-        let k = kind-byte (x .what .kind) ordinary refl (o .0) in
-        rw (g .2)
-        (record {
-          place = length rs;
-          listed = omega (arith, length-append rs (x .what ∷ recordsIn es));
-          kind = rw (getD-append-seam rs (x .what) (recordsIn es) blank) (eq-eqb (x .what .kind) 3 k);
-          before = rw (take-append-seam rs (x .what ∷ recordsIn es)) (omega (arith, o .1));
-          six = refl;
-        })
+          let o = only-ordinary m m′ (after rs) (kindOf (x .what .kind)) (g .0) (g .1) in
+          let k = kind-byte (x .what .kind) ordinary refl (o .0) in
+          rw (g .2)
+          (record {
+            place = length rs;
+            listed = omega (arith, length-append rs (x .what ∷ recordsIn es));
+            kind = rw (getD-append-seam rs (x .what) (recordsIn es) blank) (eq-eqb (x .what .kind) 3 k);
+            before = rw (take-append-seam rs (x .what ∷ recordsIn es)) (omega (arith, o .1));
+            six = refl;
+          })
     ]
 
 -- ---- files

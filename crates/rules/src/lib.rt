@@ -1,7 +1,8 @@
 // The rules for one record, numbers 4 to 11 of document 01 and 15 of document 02: the one test of records that reading and
 // checking share. What the rules ask of earlier records is kept by value in `Seen`, each watched point's link in a table of
-// `Ending`s, and the points that ordinary records lead to in a set for each point that they lead from, so that a record is tested in a few steps, however many came before it. An inner room: it serves `plan`, which tests record after
-// record, and `read_one` asks that no more were seen than a plan has room for.
+// `Ending`s, and the points that ordinary records lead to in a set for each point that they lead from, so that a record is
+// tested in a few steps, however many came before it. An inner room: it serves `plan`, which tests record after record, and
+// `read_one` asks that no more were seen than a plan has room for.
 ghost use mathlib.Core.Path.{_≡_};
 ghost use mathlib.Core.Bool.{not};
 ghost use Rattle.points.specs.Sets.{withOf};

@@ -34,7 +34,8 @@ unfolding ones boardAfterAll takeOf eventNumber boardAfter markAll sound each la
 not-at-once = (refl, refl, refl)
 
 -- It arrives 10 to 15 minutes after the first has, whenever that left: 26 outside of these, and 27 where it is passed over.
-pub counts-from-arrival : (onTransfer (ends 44 8) ≡ 26) × (onTransfer (ends 45 8) ≡ 0) × (onTransfer (ends 50 8) ≡ 0) × (onTransfer (ends 51 8) ≡ 26) × (onTransfer (alone 51 4) ≡ 27)
+pub counts-from-arrival : (onTransfer (ends 44 8) ≡ 26) × (onTransfer (ends 45 8) ≡ 0) × (onTransfer (ends 50 8) ≡ 0)
+    × (onTransfer (ends 51 8) ≡ 26) × (onTransfer (alone 51 4) ≡ 27)
 unfolding ones boardAfterAll takeOf eventNumber boardAfter markAll sound each largest greatest least leastHigh member membersOf withOf belowOf subsetOf from every passing howMany some firstThat checkWith firstBadWith numberForWith lastKind
 counts-from-arrival = (refl, refl, refl, refl, refl)
 
@@ -45,7 +46,8 @@ abbrev pub chainDay : ℕ → ℕ
 chainDay q = getD (0 ∷ 10 ∷ 35 ∷ 47 ∷ 49 ∷ []) q 0
 
 -- Each of its events is taken.
-pub chain-day-said : saidOf trucks fresh (map eventBytes (eventsOf (recordsOf trucks) chainDay)) ≡ 0 ∷ 0 ∷ 1 ∷ 0 ∷ 10 ∷ 3 ∷ 0 ∷ 35 ∷ 7 ∷ 0 ∷ 47 ∷ 15 ∷ 0 ∷ 49 ∷ 31 ∷ []
+pub chain-day-said : saidOf trucks fresh (map eventBytes (eventsOf (recordsOf trucks) chainDay))
+    ≡ 0 ∷ 0 ∷ 1 ∷ 0 ∷ 10 ∷ 3 ∷ 0 ∷ 35 ∷ 7 ∷ 0 ∷ 47 ∷ 15 ∷ 0 ∷ 49 ∷ 31 ∷ []
 unfolding inPlace inOrder eventsOver setOf saidOf ones takeOf eventNumber boardAfter markAll sound each largest greatest least leastHigh member membersOf withOf belowOf subsetOf from every passing howMany some firstThat checkWith firstBadWith numberForWith lastKind
 chain-day-said = refl
 

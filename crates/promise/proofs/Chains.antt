@@ -38,7 +38,10 @@ unfolding takeOf
 taken-by p b s e = go (eqb (checkOf p .number) 0) (sound (recordsOf p) b) refl refl e
   where
     go : (x y : Bool) → eqb (checkOf p .number) 0 ≡ x → sound (recordsOf p) b ≡ y
-        → (if not x then taken (checkOf p .number) (checkOf p .place) b else if not y then taken 20 0 b else if not (eqb (eventNumber (recordsOf p) b s) 0) then taken (eventNumber (recordsOf p) b s) 0 b else taken 0 0 (boardAfter b s)) .number ≡ 0
+        → (if not x then taken (checkOf p .number) (checkOf p .place) b
+        else if not y then taken 20 0 b
+        else if not (eqb (eventNumber (recordsOf p) b s) 0) then taken (eventNumber (recordsOf p) b s) 0 b
+        else taken 0 0 (boardAfter b s)) .number ≡ 0
         → (checkOf p .number ≡ 0) × (y ≡ true)
     go false y f g e = clash (sym (eq-eqb _ _ e) ∙ f)
     go true false f g e = absurd (omega arith)
@@ -120,7 +123,8 @@ module _ (p : Plan) (b : Board) (held : HeldBoard b) (s : List ℕ) (bytes : All
           clash (sym (j .watched) ∙ rw (← q) (opened rs b (eventPoint s) (t .opens n) .1))
 
       not-named : (n : Bool) → names s C ≡ n → n ≡ false
-      not-named true n = elim (named s C n) [ inl m ↦ clash (sym m ∙ not-in-set _ refl) | inr q ↦ absurd (not-the-point (sym (q .1))) ]
+      not-named true n =
+          elim (named s C n) [ inl m ↦ clash (sym m ∙ not-in-set _ refl) | inr q ↦ absurd (not-the-point (sym (q .1))) ]
       not-named false n = refl
 
       not-ended : (m : Bool) → isDone b C ≡ m → m ≡ false

@@ -16,7 +16,8 @@ use Rattle.network.specs.Passing.{Cycle}
 use Rattle.network.proofs.Laws.{append, not-both}
 use Rattle.vee.specs.declared.Answer.{Answer}
 use Rattle.vee.specs.declared.Answer.the-variants as answer
-use Rattle.vee.specs.PlanTest.{LinkIn, netOf, spans, many, mostProjections, edgesOf, Found, all-good, good, cycle, pair, Tested, refused, too-many, tested}
+use Rattle.vee.specs.PlanTest.{LinkIn, netOf, spans, projections, unset, many, mostProjections, edgesOf, Found, all-good, good, cycle, pair}
+use Rattle.vee.specs.PlanTest.{Tested, refused, too-many, tested}
 use Rattle.vee.specs.TestOf.{testOf}
 use Rattle.vee.proofs.Testing as testing
 use Rattle.vee.proofs.Yes.{Every, also, following, each-in-bounds, yes-passes}
@@ -41,7 +42,8 @@ module _ (p : Plan) (ok : checkOf p .number ≡ 0) where
     -- the way back along a link
     back-one : {A x y C : ℕ} → LinkIn rs A x y C → Below C A
     back-one l =
-        record { up = _; down = _; walk = step (back l) nil; below = omega (arith, rules-of rs (accepted-plan p ok) .link-bounds l, within .within l) }
+        let some = rules-of rs (accepted-plan p ok) .link-bounds l in
+        record { up = _; down = _; walk = step (back l) nil; below = omega (arith, some, within .within l) }
 
     -- the way back along a chain
     back-all : {A C : ℕ} → Chain rs A C → Below C A
@@ -49,10 +51,13 @@ module _ (p : Plan) (ok : checkOf p .number ≡ 0) where
     back-all (more l c) =
         let w = back-all c in
         let v = back-one l in
-        record { up = _; down = _; walk = append (Edge (netOf rs) ω) (w .walk) (v .walk); below = omega (arith, w .below, v .below) }
+        let both = append (Edge (netOf rs) ω) (w .walk) (v .walk) in
+        record { up = _; down = _; walk = both; below = omega (arith, w .below, v .below) }
 
     round-below : Ring rs → Cycle (Edge (netOf rs) ω)
-    round-below r = let w = back-all (r .round) in record { at = r .at; up = w .up; down = w .down; walk = w .walk; below = w .below }
+    round-below r =
+        let w = back-all (r .round) in
+        record { at = r .at; up = w .up; down = w .down; walk = w .walk; below = w .below }
 
   module _ (r : Ring rs) where
     -- A plan with a ring does not pass.
@@ -72,8 +77,13 @@ module _ (p : Plan) (ok : checkOf p .number ≡ 0) where
     found : many (spans rs) ≤ mostProjections → {a : Answer} → Tested p a → a ≡ answer.Cycle 0
     found few (refused h) = absurd (h ok)
     found few (too-many e m) = absurd (omega arith)
-    found few {a} (tested e m f) =
-        at-first (following (λ w b. round-below _ b r) (each-in-bounds rs (testing.accepted-plan p ok .1))) (λ j h. fails (yes-passes (subst (λ (a : Answer). Tested p a) h (tested e m f)))) f
+    found few {a} (tested e m f) = at-first each-below no-yes f
+      where
+        each-below : Every (λ w. Cycle (edgesOf rs w)) (projections (spans rs) unset)
+        each-below = following (λ w b. round-below _ b r) (each-in-bounds rs (testing.accepted-plan p ok .1))
+
+        no-yes : (j : ℕ) → a ≡ answer.Yes j → ⊥
+        no-yes j h = fails (yes-passes (subst (λ (a : Answer). Tested p a) h (tested e m f)))
 
 -- A plan that is accepted and has a ring is reported as a cycle.
 pub ring-reported : (p : Plan) → checkOf p .number ≡ 0 → Ring (recordsOf p) → Reported p

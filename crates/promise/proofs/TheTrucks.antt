@@ -7,12 +7,12 @@ use native.Mathlib.Omega.{arith}
 use lib.ListN.{length, getD}
 use Rattle.points.specs.Sets.{from, firstOr}
 use Rattle.plan.specs.Haul.{aLink}
-use Rattle.plan.specs.APlan.{howMany, some, firstThat, blank, recordsOf}
+use Rattle.plan.specs.APlan.{link, howMany, some, firstThat, blank, recordsOf}
 use Rattle.plan.specs.ReplyNumbers.{checkOf, checkWith, firstBadWith, numberForWith, lastKind}
 use Rattle.board.specs.Boards.{each}
 use Rattle.vee.specs.declared.Answer.{Answer}
 use Rattle.vee.specs.declared.Answer.the-variants as answer
-use Rattle.vee.specs.PlanTest.{Tested, LinkIn, spans, spread, projections, many}
+use Rattle.vee.specs.PlanTest.{Tested, Has, LinkIn, spans, spread, projections, many}
 use Rattle.vee.specs.TestOf.{arcs, listed, atOnce, passes, firstFrom, judgeOf, testFrom, testOf}
 use Rattle.vee.proofs.Executable.{computed}
 use Rattle.vee.proofs.Yes.{yes-passes}
@@ -51,7 +51,8 @@ drives C = getD (0 ∷ 0 ∷ 25 ∷ 12 ∷ []) C 0
 pub chain-day-good : GoodSheet trucks drives chainDay
 unfolding inPlace inOrder firstOr Near each from howMany firstThat
 chain-day-good =
-    good-computed trucks (yes-accepted trucks-yes) drives chainDay refl (omega arith) (omega arith, (omega arith, (omega arith, (omega arith, (omega arith, tt)))))
+    good-computed trucks (yes-accepted trucks-yes) drives chainDay refl (omega arith)
+    (omega arith, (omega arith, (omega arith, (omega arith, (omega arith, tt)))))
 
 pub chain-day-given : Gives trucks (eventsOf (recordsOf trucks) chainDay) chainDay
 chain-day-given = good-given trucks (yes-accepted trucks-yes) trucks-pass drives chainDay chain-day-good
@@ -59,15 +60,19 @@ chain-day-given = good-given trucks (yes-accepted trucks-yes) trucks-pass drives
 -- ---- a ring
 
 -- a record that is a link is one of the plan's links
-link-at : (A x y C i : ℕ) → i < length (recordsOf threeRound) → getD (recordsOf threeRound) i blank ≡ aLink A x y C → LinkIn (recordsOf threeRound) A x y C
+link-at : (A x y C i : ℕ) → i < length (recordsOf threeRound) → getD (recordsOf threeRound) i blank ≡ aLink A x y C
+    → LinkIn (recordsOf threeRound) A x y C
 link-at A x y C i h e =
-    record { what = aLink A x y C; has = record { place = i; listed = h; here = e; kind = refl }; from = refl; to = refl; least = refl; most = refl }
+    let has : Has (recordsOf threeRound) link (aLink A x y C) = record { place = i; listed = h; here = e; kind = refl } in
+    record { what = aLink A x y C; has = has; from = refl; to = refl; least = refl; most = refl }
 
 three-ring : Ring (recordsOf threeRound)
 three-ring =
     record {
       at = 0;
-      round = more (link-at 0 5 6 1 3 (omega arith) refl) (more (link-at 1 5 6 2 4 (omega arith) refl) (one (link-at 2 5 6 0 5 (omega arith) refl)));
+      round =
+          more (link-at 0 5 6 1 3 (omega arith) refl)
+          (more (link-at 1 5 6 2 4 (omega arith) refl) (one (link-at 2 5 6 0 5 (omega arith) refl)));
     }
 
 -- The ring is reported as a cycle at the first projection.

@@ -14,7 +14,7 @@ use borrow.Author.Tests.{ltb-true, leb-true, eqb-true, eqb-false, eq-eqb, ne-eqb
 use native.Mathlib.Decide.{decLt}
 use Rattle.plan.specs.Choice.{if_then_else_}
 use Rattle.plan.specs.Limits.{mostPoints, mostRecords, farthest}
-use Rattle.plan.specs.APlan.{Kind, point, link, ordinary, wait, unknown, kindOf, byteOf, is, one, howMany, some, points, starts, watched, startsAt, endsAt, fromTo, firstThat, linkTo, blank, gapOf, recordsOf}
+use Rattle.plan.specs.APlan.{Kind, point, link, ordinary, wait, unknown, kindOf, byteOf, is, one, howMany, some, points, watched, endsAt, fromTo, firstThat, linkTo, blank, gapOf, recordsOf}
 use Rattle.plan.specs.ReplyNumbers.{after, isKnown, lastKind, numberOf, firstBad, firstBadWith, refusal, checkOf, checkWith}
 use Rattle.plan.specs.Held.{plain}
 use Rattle.records.specs.declared.Record.{Record}
@@ -33,8 +33,6 @@ pub record Rules (rs : List Record) (r : Record) : Type 0 where
   pub link-bounds : is link r ≡ true → (1 ≤ gapOf (r .first) .up) × (gapOf (r .first) .up < gapOf (r .second) .up) × (gapOf (r .second) .up ≤ farthest)
   -- no other link ends there
   pub link-alone : is link r ≡ true → linkTo rs (r .b) ≡ r
-  -- no watched point starts a link
-  pub link-free : is link r ≡ true → watched rs (r .a) ≡ false
   pub ordinary-bounds : is ordinary r ≡ true → (gapOf (r .first) .up ≤ farthest) × (gapOf (r .first) .down ≤ farthest)
   pub wait-watched : is wait r ≡ true → watched rs (r .b) ≡ true
   pub wait-foremans : is wait r ≡ true → watched rs (r .a) ≡ false
@@ -142,11 +140,8 @@ module _ (rs : List Record) (r : Record) (ok : numberOf (after rs) r 0 ≡ 0) wh
   same-link e p = first-not (endsAt p) rs r (rw e)
 
   -- rule 10 for a link
-  link-joins : is link r ≡ true → (starts rs (r .b) ≡ false) × (watched rs (r .b) ≡ false) × (watched rs (r .a) ≡ false)
-  link-joins e =
-      let j = both (not (starts rs (r .b))) _ (of link e refl .joins) in
-      let k = both (not (watched rs (r .b))) _ (j .1) in
-      (not-true _ (j .0), not-true _ (k .0), not-true _ (k .1))
+  link-joins : is link r ≡ true → watched rs (r .b) ≡ false
+  link-joins e = not-true _ (of link e refl .joins)
 
   -- rule 10 for a wait
   wait-joins : is wait r ≡ true → (watched rs (r .b) ≡ true) × (watched rs (r .a) ≡ false) × (r .a ≡ linkTo rs (r .b) .a → ⊥)
@@ -160,13 +155,6 @@ module _ (rs : List Record) (r : Record) (ok : numberOf (after rs) r 0 ≡ 0) wh
     no-link : is wait x ≡ true → is link r ≡ false
     no-link e = ne-eqb (r .kind) (byteOf link) (λ f. omega (arith, eqb-true (x .kind) (byteOf wait) e, later))
 
-    free-more : is link x ≡ true → (b : Bool) → (is link r && eqb (x .a) (r .b)) ≡ b → (b || watched rs (x .a)) ≡ false
-    free-more e false f = w .link-free e
-    free-more e true f =
-        let g = both (is link r) (eqb (x .a) (r .b)) f in
-        let s : starts rs (r .b) ≡ true = getD-some (startsAt (r .b)) rs i h (rw (at, e) (eq-eqb (r .b) (x .a) (sym (eqb-true (x .a) (r .b) (g .1))))) in
-        clash (sym s ∙ link-joins (g .0) .0)
-
     old : Rules more x
     old =
         record {
@@ -175,7 +163,6 @@ module _ (rs : List Record) (r : Record) (ok : numberOf (after rs) r 0 ≡ 0) wh
           differ = w .differ;
           link-bounds = w .link-bounds;
           link-alone = λ e. first-old (endsAt (x .b)) rs r (getD-some (endsAt (x .b)) rs i h (rw (at, e) (eq-eqb (x .b) (x .b) refl))) ∙ w .link-alone e;
-          link-free = λ e. rw (some-snoc (endsAt (x .a)) rs r) (free-more e (endsAt (x .a) r) refl);
           ordinary-bounds = w .ordinary-bounds;
           wait-watched = λ e. same-watched (no-link e) (x .b) ∙ w .wait-watched e;
           wait-foremans = λ e. same-watched (no-link e) (x .a) ∙ w .wait-foremans e;
@@ -212,8 +199,7 @@ module _ (rs : List Record) (r : Record) (ok : numberOf (after rs) r 0 ≡ 0) wh
             let k = both (ltZ (r .first) (r .second)) _ (j .1) in
             let low = le-up (pos 1) (r .first) (j .0) in
             (low, lt-up (r .first) (r .second) low (k .0), le-up (r .second) (pos farthest) (k .1));
-        link-alone = λ e. first-so (endsAt (r .b)) rs r (link-joins e .1) (rw e (eq-eqb (r .b) (r .b) refl));
-        link-free = λ e. rw (some-snoc (endsAt (r .a)) rs r, e, ne-eqb (r .a) (r .b) (new-names (not-a r link point (λ f. omega arith) e) .2)) (link-joins e .2);
+        link-alone = λ e. first-so (endsAt (r .b)) rs r (link-joins e) (rw e (eq-eqb (r .b) (r .b) refl));
         ordinary-bounds = λ e.
             let j = both (leZ (negℤ (pos farthest)) (r .first)) _ (of ordinary e refl .bounds) in
             (le-up (r .first) (pos farthest) (j .1), le-down (negℤ (pos farthest)) (r .first) (j .0));

@@ -12,8 +12,8 @@ use Rattle.plan.specs.declared.Plan.{Plan}
 use Rattle.plan.specs.declared.Found.{Found}
 use Rattle.plan.specs.declared.Found.the-variants.{At, Nothing}
 pub use Rattle.numbers.specs.Numbers.{gapOf}
-pub use Rattle.records.specs.Records.{Kind, point, link, ordinary, wait, unknown, kindOf, mostWith, byteOf, is, startsAt, endsAt, fromTo, one}
-pub use Rattle.records.specs.Records.{points, links, starts, watched, leads, blank, linkTo}
+pub use Rattle.records.specs.Records.{Kind, point, link, ordinary, wait, unknown, kindOf, mostWith, byteOf, is, endsAt, fromTo, one}
+pub use Rattle.records.specs.Records.{points, links, watched, leads, blank, linkTo}
 unfoldable pub use Rattle.records.specs.Records.{howMany, some, firstThat}
 
 -- the place of the first of the records that is so, if one is; i is the place of the first of all

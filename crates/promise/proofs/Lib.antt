@@ -1,8 +1,10 @@
 -- The theorems of the promise, for later crates to cite: `yes-finishes`, `yes-promised` and `yes-exactly-the-good` of
 -- `TestYes`; `yes-ends` of `Ends`, how the programs end; `executor` of `Executor`; `happening-accepted`, `happened-promised`
 -- and `finishes` of `Play`; `at-durations` of `Lasting`; `some-players` of `Players`; `exactly-the-good` of `LetThrough`, with
--- `good-given` of `GoodSheets` and `through-good`; `untied-forbidden` of `Untied`; and the haul of document 01 as an
--- instance, in `Haul` and `Day`. The others lead up to these.
+-- `good-given` of `GoodSheets` and `through-good`; `untied-forbidden` of `Untied`; `event-starts` and `event-chained` of `Chains`;
+-- `ring-reported` of `Rings`; and as instances the haul of document 01, in `Haul` and `Day`, and two trucks in a chain with a ring,
+-- in `TheTrucks` and `AChain`. The others lead up to these.
+pub mod AChain
 pub mod Day
 pub mod Nets
 pub mod Gathering
@@ -24,3 +26,6 @@ pub mod TestYes
 pub mod Haul
 pub mod Ends
 pub mod Untied
+pub mod Chains
+pub mod Rings
+pub mod TheTrucks

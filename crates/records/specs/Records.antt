@@ -44,10 +44,6 @@ byteOf unknown = 0
 abbrev pub is : Kind → Record → Bool
 is k r = eqb (r .kind) (byteOf k)
 
--- r is a link that starts at p
-abbrev pub startsAt : ℕ → Record → Bool
-startsAt p r = is link r && eqb p (r .a)
-
 -- r is a link that ends at p
 abbrev pub endsAt : ℕ → Record → Bool
 endsAt p r = is link r && eqb p (r .b)
@@ -77,10 +73,6 @@ points rs = howMany (is point) rs
 -- how many links there are
 abbrev pub links : List Record → ℕ
 links rs = howMany (is link) rs
-
--- p starts a link
-abbrev pub starts : List Record → ℕ → Bool
-starts rs p = some (startsAt p) rs
 
 -- p ends a link: it is only watched
 abbrev pub watched : List Record → ℕ → Bool

@@ -6,14 +6,14 @@ use Prim.Native.Nat.{ℕ, zero, suc, _+_, _%_, _≤_, _<_}
 use native.Mathlib.Omega.{arith}
 use lib.Dec.{eqb, ltb}
 use lib.ListN.{length, getD, set, length-set, replicate, length-replicate, getD-replicate}
-use borrow.Author.Tests.{ltb-true, eqb-true, eq-eqb, ne-eqb}
+use borrow.Author.Tests.{ltb-true, eqb-true, eq-eqb, ne-eqb, not-true}
 use native.Mathlib.Decide.{ℕ-discrete}
 use lib.Seq.{set-getD, getD-set-same, getD-set-other}
 use Rattle.points.specs.Sets.{member, withOf}
 use Rattle.points.proofs.Laws.{member-with, member-empty}
 use Rattle.numbers.specs.Choice.{if_then_else_}
 use Rattle.records.specs.Limits.{mostPoints}
-use Rattle.records.specs.Records.{Kind, point, link, ordinary, wait, unknown, kindOf, byteOf, is, one, howMany, some, points, starts, watched, startsAt, endsAt, fromTo, leads, firstThat, linkTo}
+use Rattle.records.specs.Records.{Kind, point, link, ordinary, wait, unknown, kindOf, byteOf, is, one, howMany, some, points, watched, endsAt, fromTo, leads, firstThat, linkTo}
 use Rattle.rules.specs.OneRecord.{Before, after, isKnown, lastKind, inOrder, roomFor, zeros, named, apart, single, joined, bounded, numberFor, numberForWith, numberOf}
 use Rattle.rules.specs.Inside.{told, noEnding, fresh, withRecord, endingAfter, secondsAfter}
 use Rattle.rules.proofs.ByKind.{is-unknown}
@@ -40,7 +40,6 @@ pub record Shows (rs : List Record) (s : Seen) (ends : List Ending) (seconds : L
   pub many-ordinary : s .ordinary ≡ howMany (is ordinary) rs
   pub many-waits : s .waits ≡ howMany (is wait) rs
   pub few : points rs ≤ mostPoints
-  pub start : (p : ℕ) → p < mostPoints → member (s .starts) p ≡ starts rs p
   pub end : (p : ℕ) → p < mostPoints → member (s .watched) p ≡ watched rs p
   pub long : length ends ≡ mostPoints
   pub links : (p : ℕ) → p < mostPoints → getD ends p noEnding ≡ endingOf rs p
@@ -58,7 +57,6 @@ shows-none =
       many-ordinary = refl;
       many-waits = refl;
       few = omega arith;
-      start = λ p h. member-empty p;
       end = λ p h. member-empty p;
       long = length-replicate mostPoints noEnding;
       links = λ p h. getD-replicate mostPoints p noEnding noEnding h;
@@ -100,7 +98,7 @@ module _ (rs : List Record) (s : Seen) (ends : List Ending) (seconds : List ℕ)
     b-below = second-below rs (w .few) r n
 
     same-link : past-8 link kept r ≡ past-8 link (after rs) r
-    same-link = rw (w .start (r .b) b-below, w .end (r .b) b-below, w .end (r .a) a-below)
+    same-link = rw (w .end (r .b) b-below)
 
     same-ordinary : past-8 ordinary kept r ≡ past-8 ordinary (after rs) r
     same-ordinary =
@@ -149,11 +147,6 @@ put-more : (so : Bool) (s p q : ℕ) (old : Bool) → (so ≡ true → q < mostP
 put-more true s p q old h e = rw (member-with s q p (h refl), e)
 put-more false s p q old h e = e
 
-middle : (a b c : Bool) → (not a && (not b && not c)) ≡ true → b ≡ false
-middle true b c e = absurd (let z : _≡_ {A = ℕ} 0 1 = cc in omega arith)
-middle false true c e = absurd (let z : _≡_ {A = ℕ} 0 1 = cc in omega arith)
-middle false false c e = refl
-
 module _ (rs : List Record) (s : Seen) (ends : List Ending) (seconds : List ℕ) (w : Shows rs s ends seconds) (r : Record) (z : ℕ) (ok : numberOf (after rs) r z ≡ 0) where
   abbrev place : ℕ
   place = r .b % mostPoints
@@ -170,14 +163,11 @@ module _ (rs : List Record) (s : Seen) (ends : List Ending) (seconds : List ℕ)
   few-more true e = omega (arith, ltb-true (points rs) mostPoints (of point e refl .room))
   few-more false e = omega (arith, w .few)
 
-  from-below : is link r ≡ true → r .a < mostPoints
-  from-below e = first-below rs (w .few) r (of link e refl .names)
-
   to-below : is link r ≡ true → r .b < mostPoints
   to-below e = second-below rs (w .few) r (of link e refl .names)
 
   not-yet : is link r ≡ true → watched rs (r .b) ≡ false
-  not-yet e = middle (starts rs (r .b)) (watched rs (r .b)) (watched rs (r .a)) (of link e refl .joins)
+  not-yet e = not-true (watched rs (r .b)) (of link e refl .joins)
 
   -- the table, by whether r is a link, and whether it is the link that ends at p
   links-same : is link r ≡ false → (p : ℕ) → p < mostPoints → getD ends-more p noEnding ≡ endingOf (rs ++ (r ∷ [])) p
@@ -263,7 +253,6 @@ module _ (rs : List Record) (s : Seen) (ends : List Ending) (seconds : List ℕ)
         many-ordinary = rw (many-snoc (is ordinary) rs r, w .many-ordinary);
         many-waits = rw (many-snoc (is wait) rs r, w .many-waits);
         few = rw (many-snoc (is point) rs r) (few-more (is point r) refl);
-        start = λ p h. rw (some-snoc (startsAt p) rs r) (put-more (is link r) (s .starts) p (r .a) (starts rs p) from-below (w .start p h));
         end = λ p h. rw (some-snoc (endsAt p) rs r) (put-more (is link r) (s .watched) p (r .b) (watched rs p) to-below (w .end p h));
         long = simp length-set (w .long);
         links = links-more (is link r) refl;

@@ -31,7 +31,6 @@ told s e seconds =
     record {
       last = s .kind;
       many = manyIn s;
-      start = member (s .starts);
       end = member (s .watched);
       leads = λ p. member seconds;
       from = λ p. e .from;
@@ -76,7 +75,7 @@ pub record Few (s : Seen) : Type 0 where
   pub waits : s .waits ≤ mostRecords
 
 abbrev pub fresh : Seen
-fresh = record { kind = 0; points = 0; links = 0; ordinary = 0; waits = 0; starts = 0; watched = 0 }
+fresh = record { kind = 0; points = 0; links = 0; ordinary = 0; waits = 0; watched = 0 }
 
 -- what is kept once r is among the records so far
 abbrev pub withRecord : Seen → Record → Seen
@@ -87,7 +86,6 @@ withRecord s r =
       links = s .links + one (is link r);
       ordinary = s .ordinary + one (is ordinary r);
       waits = s .waits + one (is wait r);
-      starts = if is link r then withOf (s .starts) (r .a) else s .starts;
       watched = if is link r then withOf (s .watched) (r .b) else s .watched;
     }
 

@@ -1,5 +1,5 @@
--- Document 01, "Reply numbers", 4 to 11, and document 02, §3, 15: what a record is refused for, after the records before it. Number 0 is no number of
--- the document: it says that nothing is refused. Assumes nothing.
+-- Document 01, "Reply numbers", 4 to 11, and document 02, §3, 15, and §8, 10 for a link: what a record is refused for, after the
+-- records before it. Number 0 is no number of the document: it says that nothing is refused. Assumes nothing.
 use mathlib.Core.Bool.{Bool, true, false, not, _&&_}
 use mathlib.Core.List.{List, [], _∷_}
 use Prim.Native.Nat.{ℕ}
@@ -9,7 +9,7 @@ use lib.Signed.{leZ, ltZ}
 use Rattle.numbers.specs.Choice.{if_then_else_}
 use Rattle.numbers.specs.Numbers.{isNought}
 use Rattle.records.specs.Limits.{mostOrdinary, farthest}
-use Rattle.records.specs.Records.{Kind, point, link, ordinary, wait, unknown, kindOf, is, mostWith, howMany, starts, watched, leads, linkTo}
+use Rattle.records.specs.Records.{Kind, point, link, ordinary, wait, unknown, kindOf, is, mostWith, howMany, watched, leads, linkTo}
 use Rattle.records.specs.declared.Record.{Record}
 
 -- what the records before a record have said, as far as the rules ask for it
@@ -18,8 +18,7 @@ pub record Before : Type 0 where
   pub last : ℕ
   -- how many there are of each kind
   pub many : Kind → ℕ
-  -- whether a point starts a link, and whether it ends one
-  pub start : ℕ → Bool
+  -- whether a point ends a link
   pub end : ℕ → Bool
   -- whether an ordinary record leads from one point to another
   pub leads : ℕ → ℕ → Bool
@@ -38,7 +37,6 @@ after rs =
     record {
       last = lastKind 0 rs;
       many = λ k. howMany (is k) rs;
-      start = starts rs;
       end = watched rs;
       leads = leads rs;
       from = λ p. linkTo rs p .a;
@@ -95,11 +93,10 @@ single b ordinary r = not (b .leads (r .a) (r .b))
 single b wait r = true
 single b unknown r = true
 
--- 10: a link's C neither starts nor ends an earlier link and its A ends none; a wait's C is watched, V is not, and V is
--- not C's A
+-- 10: a link's C ends no earlier link; a wait's C is watched, V is not, and V is not C's A
 abbrev pub joined : Before → Kind → Record → Bool
 joined b point r = true
-joined b link r = not (b .start (r .b)) && (not (b .end (r .b)) && not (b .end (r .a)))
+joined b link r = not (b .end (r .b))
 joined b ordinary r = true
 joined b wait r = b .end (r .b) && (not (b .end (r .a)) && not (eqb (r .a) (b .from (r .b))))
 joined b unknown r = true

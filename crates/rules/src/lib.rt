@@ -1,7 +1,8 @@
 // The rules for one record, numbers 4 to 11 of document 01 and 15 of document 02: the one test of records that reading and
 // checking share. What the rules ask of earlier records is kept by value in `Seen`, each watched point's link in a table of
-// `Ending`s, and the points that ordinary records lead to in a set for each point that they lead from, so that a record is tested in a few steps, however many came before it. An inner room: it serves `plan`, which tests record after
-// record, and `read_one` asks that no more were seen than a plan has room for.
+// `Ending`s, and the points that ordinary records lead to in a set for each point that they lead from, so that a record is
+// tested in a few steps, however many came before it. An inner room: it serves `plan`, which tests record after record, and
+// `read_one` asks that no more were seen than a plan has room for.
 ghost use mathlib.Core.Path.{_≡_};
 ghost use mathlib.Core.Bool.{not};
 ghost use Rattle.points.specs.Sets.{withOf};
@@ -48,15 +49,13 @@ pub const OUT_OF_BOUNDS: u32 = 11;
 
 pub const TWIN: u32 = 15;
 
-// What the records so far have said: the kind of the last, how many of each kind, which points start a link and which
-// end one.
+// What the records so far have said: the kind of the last, how many of each kind, and which points end a link.
 pub struct Seen {
     pub kind: u8,
     pub points: u32,
     pub links: u32,
     pub ordinary: u32,
     pub waits: u32,
-    pub starts: u32,
     pub watched: u32,
 }
 
@@ -125,7 +124,6 @@ impl Seen {
             links: 0,
             ordinary: 0,
             waits: 0,
-            starts: 0,
             watched: 0,
         }
     }
@@ -162,7 +160,7 @@ impl Seen {
             named: self.names(r),
             apart: r.a != r.b,
             single: true,
-            joined: !has(self.starts, r.b) & (!has(self.watched, r.b) & !has(self.watched, r.a)),
+            joined: !has(self.watched, r.b),
             bounded: at_most(1, r.first) & (less(r.first, r.second) & at_most(r.second, FARTHEST)),
         }
     }
@@ -225,7 +223,6 @@ impl Seen {
             links: self.links + one_if(is_link),
             ordinary: self.ordinary + one_if(r.kind == ORDINARY),
             waits: self.waits + one_if(r.kind == WAIT),
-            starts: with_if(is_link, self.starts, r.a),
             watched: with_if(is_link, self.watched, r.b),
         }
     }

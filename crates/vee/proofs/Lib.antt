@@ -15,3 +15,4 @@ pub mod Arcs
 pub mod Meetings
 pub mod Executable
 pub mod EndsOnly
+pub mod ARing

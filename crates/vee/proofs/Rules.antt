@@ -85,12 +85,10 @@ sort pre r k = go1 (eqb (r .kind) 1) refl
     go2 true e f1 =
         let k′ : Passed link (after pre) r 0 = rw (f1, e) at k in
         let n = both (ltb (r .a) (howMany (is point) pre)) _ (k′ .names) in
-        let j = both (not (after pre .start (r .b))) _ (k′ .joins) in
-        let j′ = both (not (watched pre (r .b))) _ (j .1) in
         let b = both (leZ (pos 1) (r .first)) _ (k′ .bounds) in
         let b′ = both (ltZ (r .first) (r .second)) _ (b .1) in
         let w = from-to farthest (r .first) (r .second) (b .0) (b′ .0) (b′ .1) in
-        a-link (eqb-true (r .kind) 2 e) (ltb-true _ _ (n .0)) (ltb-true _ _ (n .1)) (not-true (watched pre (r .b)) (j′ .0)) (w .2) (w .3) (w .4) (w .5)
+        a-link (eqb-true (r .kind) 2 e) (ltb-true _ _ (n .0)) (ltb-true _ _ (n .1)) (not-true (watched pre (r .b)) (k′ .joins)) (w .2) (w .3) (w .4) (w .5)
     go2 false e f1 = go3 (eqb (r .kind) 3) refl f1 e
 
     go1 : (b : Bool) → eqb (r .kind) 1 ≡ b → Sort pre r

@@ -11,12 +11,6 @@ names-requires c κs = search needs
 has-requires : tie.Need-has-requires
 has-requires c κs = search needs
 
-has-requires-2 : tie.Need-has-requires-2
-has-requires-2 c κs = search needs
-
-has-requires-3 : tie.Need-has-requires-3
-has-requires-3 c κs = search needs
-
 at-most-requires : tie.Need-at-most-requires
 at-most-requires c κs = search needs
 
@@ -28,12 +22,10 @@ at-most-requires-2 c κs = search needs
 
 returns : tie.Need-returns
 returns c =
-    let r = c .before .before .before .before .before .before .before .before .before .before .before .before .before .before .before .before .args .r in
+    let r = c .before .before .before .before .before .before .before .before .before .before .before .before .before .before .args .r in
     rw (
-      c .before .before .before .before .before .before .before .before .before .before .before .names .ensures,
-      c .before .before .before .before .before .before .before .before .before .has .ensures,
-      c .before .before .before .before .before .before .before .before .has2 .ensures,
-      c .before .before .before .before .before .before .before .has3 .ensures,
+      c .before .before .before .before .before .before .before .before .before .names .ensures,
+      c .before .before .before .before .before .before .before .has .ensures,
       c .before .before .before .before .before .at-most .ensures,
       c .before .before .less .ensures,
       c .at-most2 .ensures,
@@ -47,8 +39,6 @@ link-spec =
     (tie.spec
     names-requires
     has-requires
-    has-requires-2
-    has-requires-3
     at-most-requires
     less-requires
     at-most-requires-2

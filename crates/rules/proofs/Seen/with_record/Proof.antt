@@ -30,18 +30,14 @@ add-t14 c = search needs
 with-if-requires : tie.Need-with-if-requires
 with-if-requires c κs = search needs
 
-with-if-requires-2 : tie.Need-with-if-requires-2
-with-if-requires-2 c κs = search needs
-
 returns : tie.Need-returns
 returns c =
     rw (
-      c .before .before .before .before .before .before .before .before .before .before .before .one-if .ensures .0,
-      c .before .before .before .before .before .before .before .before .before .one-if2 .ensures .0,
-      c .before .before .before .before .before .before .one-if3 .ensures .0,
-      c .before .before .before .one-if4 .ensures .0,
-      c .before .with-if .ensures,
-      c .with-if2 .ensures,
+      c .before .before .before .before .before .before .before .before .before .before .one-if .ensures .0,
+      c .before .before .before .before .before .before .before .before .one-if2 .ensures .0,
+      c .before .before .before .before .before .one-if3 .ensures .0,
+      c .before .before .one-if4 .ensures .0,
+      c .with-if .ensures,
     )
 
 pub with-record-spec : {M : Type 1} → statement M
@@ -57,5 +53,4 @@ with-record-spec =
     one-if-requires-4
     add-t14
     with-if-requires
-    with-if-requires-2
     returns)

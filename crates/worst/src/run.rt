@@ -1,0 +1,71 @@
+// The run of a projection, on a plan laid out in rows: its finishing minute, how many events it has, and the events' bytes in
+// a lent log. A plan that passes is assumed, so that the run finishes.
+ghost use mathlib.Core.Path.{_≡_};
+ghost use Rattle.promise.specs.Plays.{eventBytes};
+ghost use Rattle.worst.specs.Coded.{asPlayed, RunAsks, RanOf};
+use board::after;
+use board::fresh;
+use events::Event;
+use history::first_points;
+use records::RECORD_BYTES;
+use records::put;
+use rows::SHEET;
+use steps::next_event;
+use tables::SIDE;
+
+// The clock of the board on which a run ends, and how many events lead there.
+pub(crate) struct Ran {
+    pub minute: u32,
+    pub events: u32,
+}
+
+// The sixteen bytes of an event.
+fn event_bytes(e: Event) -> [u8; RECORD_BYTES]
+    ensures { λ s. ⌜ s ≡ eventBytes (asPlayed e) ⌝ }
+{
+    let t = e.minute;
+    let s = e.set;
+    [
+        (t % 256) as u8,
+        (t / 256 % 256) as u8,
+        (t / 256 / 256 % 256) as u8,
+        (t / 256 / 256 / 256 % 256) as u8,
+        e.point,
+        0,
+        0,
+        0,
+        (s % 256) as u8,
+        (s / 256 % 256) as u8,
+        (s / 256 / 256 % 256) as u8,
+        (s / 256 / 256 / 256 % 256) as u8,
+        0,
+        0,
+        0,
+        0,
+    ]
+}
+
+pub(crate) fn run(
+    sheet: &[u64; SHEET],
+    m: usize,
+    n: u32,
+    durations: &[u64; SIDE],
+    log: &mut [u8],
+) -> Ran
+    requires { ⌜ RunAsks (now sheet) m n (now durations) (now log) ⌝ }
+    ensures { λ r. ⌜ RanOf (now (sheet .entry)) m n (now (durations .entry)) (now (log .entry)) (now (log .exit)) r ⌝ }
+{
+    let all = first_points(n);
+    let mut board = fresh();
+    let mut k: usize = 0;
+    while board.done != all {
+        let e = next_event(sheet, m, n, durations, board);
+        put(log, RECORD_BYTES * k, event_bytes(e));
+        board = after(board, e);
+        k += 1;
+    }
+    Ran {
+        minute: board.clock,
+        events: k as u32,
+    }
+}

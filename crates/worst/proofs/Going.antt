@@ -4,10 +4,10 @@ use mathlib.Core.Bool.{Bool, true, false}
 use mathlib.Core.List.{List, [], _∷_, _++_, append-nil, append-assoc}
 use Prim.Native.Nat.{ℕ, zero, suc, _+_, _-_, _*_, _^_, _≤_, _<_}
 use native.Mathlib.Omega.{arith}
-use lib.Dec.{eqb, leb}
+use lib.Dec.{eqb, ltb, leb}
 use lib.ListN.{length, take, drop, length-append}
 use lib.Seq.{paste, take-at, drop-append-add, drop-drop}
-use borrow.Author.Tests.{eq-eqb, ne-eqb}
+use borrow.Author.Tests.{eq-eqb, ne-eqb, lt-ltb, le-ltb}
 use Rattle.points.specs.Sets.{belowOf, from, membersOf}
 use Rattle.plan.specs.Choice.{if_then_else_}
 use Rattle.plan.specs.Limits.{mostPoints, farthest, recordBytes}
@@ -31,12 +31,13 @@ use Rattle.promise.proofs.Gathering.{set-of-fits}
 use Rattle.promise.proofs.Happening.{Reads, reads}
 use Rattle.steps.specs.Events.{made, EventOf, StepReady}
 use Rattle.worst.specs.ProjectionRuns.{offered, aim, aimed, falls, nextEvent, after, runFrom, eventsFrom, runOf, eventsOfRun}
-use Rattle.worst.specs.WorstMinute.{finishing, bytesOfAll}
+use Rattle.worst.specs.WorstMinute.{finishing, bytesOfAll, day}
 use Rattle.worst.specs.Promises.{Along, start, next, OnTheWay}
-use Rattle.worst.specs.Coded.{asPlayed, RunReady, RunAsks, RanOf}
+use Rattle.worst.specs.Coded.{asPlayed, RunReady, RunAsks, RanOf, DayAsks, DayAs}
+use Rattle.worst.specs.declared.Day.{Day}
 use Rattle.worst.specs.declared.run.Ran.{Ran}
 use Rattle.worst.proofs.Alike.{least-never}
-use Rattle.worst.proofs.OnRuns.{along-stands, on-the-way, rest-of}
+use Rattle.worst.proofs.OnRuns.{along-stands, on-the-way, rest-of, runs-well}
 
 -- ---- bytes
 
@@ -193,6 +194,12 @@ module _ (p : Plan) {s : List ℕ} {m n : ℕ} {w : List ℕ} (r : RunReady p s 
       part-logged : log ≡ bytesOfAll (eventsOfRun p w) ++ drop (recordBytes * length (eventsOfRun p w)) log₀
       part-logged = t .logged ∙ (λ i. bytesOfAll (part-events i) ++ drop (recordBytes * part-count i) log₀)
 
+  -- a run has few events
+  pub few-of-run : length (eventsOfRun p w) ≤ mostPoints
+  few-of-run =
+      let e = runs-well p (r .sheet .accepted) (r .passes) w (r .within) in
+      omega (arith, e .each _ _ (e .ends) .events, known .few)
+
 -- ---- whatever plan the sheet has
 
 pub record Going (s : List ℕ) (m n : ℕ) (w log₀ log : List ℕ) (b : Board) (k : ℕ) : Type 0 where
@@ -240,3 +247,36 @@ module _ {s : List ℕ} {m n : ℕ} {w log₀ log : List ℕ} {b : Board} {k all
         events = λ p r. part-count p r (g .of p r) (is-finished h p r);
         written = λ p r. part-logged p r (g .of p r) (is-finished h p r);
       }
+
+-- ---- a day
+
+module _ {s : List ℕ} {m n : ℕ} {w : List ℕ} (asks : DayAsks s m n w) where
+  -- a log of an event for each point is long enough
+  pub day-counts : {log : List ℕ} → recordBytes * mostPoints ≤ length log → RunAsks s m n w log
+  day-counts room = record { plan = asks .plan; ready = asks .ready; room = omega (arith, few-of-run (asks .plan) (asks .ready)) }
+
+  module _ {log log′ : List ℕ} {counted : Ran} (c : RanOf s m n w log log′ counted) {out : List ℕ} where
+    pub day-short : length out < recordBytes * counted .events → {d : Day} → d ≡ day 12 0 0 → DayAs s m n w out out d
+    day-short h {d} e =
+        record {
+          reply = λ p r. e ∙ rw (short p r) refl;
+          written = λ p r. rw (short p r) refl;
+        }
+      where
+        short : (p : Plan) → RunReady p s m n w → ltb (length out) (recordBytes * length (eventsOfRun p w)) ≡ true
+        short p r = lt-ltb (length out) (recordBytes * length (eventsOfRun p w)) (omega (arith, c .events p r))
+
+    module _ (h : recordBytes * counted .events ≤ length out) where
+      -- the buffer is long enough, and has the events then
+      pub day-runs : RunAsks s m n w out
+      day-runs = record { plan = asks .plan; ready = asks .ready; room = omega (arith, c .events (asks .plan) (asks .ready)) }
+
+      pub day-written : {out′ : List ℕ} {written : Ran} → RanOf s m n w out out′ written → {d : Day} → d ≡ day 0 0 (written .events) → DayAs s m n w out out′ d
+      day-written {out′} {written} o {d} e =
+          record {
+            reply = λ p r. e ∙ rw (enough p r, o .events p r) refl;
+            written = λ p r. o .written p r ∙ rw (enough p r) refl;
+          }
+        where
+          enough : (p : Plan) → RunReady p s m n w → ltb (length out) (recordBytes * length (eventsOfRun p w)) ≡ false
+          enough p r = le-ltb (length out) (recordBytes * length (eventsOfRun p w)) (omega (arith, c .events p r))

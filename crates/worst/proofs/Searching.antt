@@ -12,14 +12,12 @@ use Rattle.plan.specs.Choice.{if_then_else_}
 use Rattle.plan.specs.Limits.{mostPoints, mostRecords, recordBytes}
 use Rattle.plan.specs.APlan.{points, links, recordsOf}
 use Rattle.plan.specs.declared.Plan.{Plan}
-use Rattle.plan.proofs.Accepted as plans
 use Rattle.rows.specs.Sheet.{by}
 use Rattle.network.specs.Projection.{InBounds}
 use Rattle.vee.specs.PlanTest.{netOf, spans, many, unset, mostProjections}
 use Rattle.vee.specs.Walked.{spansIn, WalkReady}
 use Rattle.vee.proofs.Walks.{as-many}
 use Rattle.vee.proofs.Testing.{accepted-plan, links-are, may-count, may-walk}
-use Rattle.worst.specs.ProjectionRuns.{eventsOfRun}
 use Rattle.worst.specs.WorstMinute.{projectionsOf, finishing, Finish, worse, worstFrom, worstOfAll}
 use Rattle.worst.specs.Inside.{chosen}
 use Rattle.worst.specs.Promises.{projectionAt}
@@ -27,7 +25,7 @@ use Rattle.worst.specs.Coded.{RunReady, RunAsks, RanOf, ChooseAsks, Chos
 use Rattle.worst.specs.declared.run.Ran.{Ran}
 use Rattle.worst.specs.declared.projections.Found.{Found}
 use Rattle.worst.proofs.Decoding.{projection-chosen}
-use Rattle.worst.proofs.OnRuns.{runs-well}
+use Rattle.worst.proofs.Going.{few-of-run}
 use Rattle.worst.proofs.Stands.{projection-in-bounds}
 
 -- ---- one plan
@@ -74,11 +72,6 @@ module _ (p : Plan) {s : List ℕ} {m n k total : ℕ} (a : AllReady p s m n k t
           lasts = c .small;
         }
 
-    pub few-events : length (eventsOfRun p w) ≤ mostPoints
-    few-events =
-        let r = runs-well p (a .sheet .accepted) (a .passes) w (run-ready .within) in
-        omega (arith, r .each _ _ (r .ends) .events, plans.accepted-plan p (a .sheet .accepted) .few)
-
   -- what is left of the projections
   rest-here : (i : ℕ) → i < total → drop i (projectionsOf p) ≡ projectionAt p i ∷ drop (suc i) (projectionsOf p)
   rest-here i h = drop-cons (projectionsOf p) i [] (omega (arith, as-many (spans (recordsOf p)) unset, a .counted))
@@ -118,7 +111,7 @@ module _ {s : List ℕ} {m n k total : ℕ} {found : Found} {i : ℕ} (t : Searc
         record {
           plan = asks .plan;
           ready = run-ready (asks .plan) (asks .ready) h c;
-          room = omega (arith, few-events (asks .plan) (asks .ready) h c);
+          room = omega (arith, few-of-run (asks .plan) (run-ready (asks .plan) (asks .ready) h c));
         }
 
   on-with : (p : Plan) → AllReady p s m n k total → i < total → {w log log′ : List ℕ} → ChosenAs s (n + k) k i w → {r : Ran} → RanOf s m n w log log′ r

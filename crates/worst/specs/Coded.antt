@@ -22,8 +22,9 @@ use Rattle.promise.specs.Nets.{PassesPlan}
 use Rattle.promise.specs.Plays as plays
 use Rattle.steps.specs.Rows.{SheetOf}
 use Rattle.worst.specs.ProjectionRuns.{eventsOfRun}
-use Rattle.worst.specs.WorstMinute.{finishing, bytesOfAll, worstOfAll}
+use Rattle.worst.specs.WorstMinute.{finishing, bytesOfAll, worstOfAll, day}
 use Rattle.worst.specs.Inside.{chosen}
+use Rattle.worst.specs.declared.Day.{Day}
 use Rattle.worst.specs.declared.run.Ran.{Ran}
 use Rattle.worst.specs.declared.projections.Found.{Found}
 
@@ -68,6 +69,25 @@ pub record RanOf (s : List ℕ) (m n : ℕ) (w log log′ : List ℕ) (r : Ran) 
   pub minute : (p : Plan) → RunReady p s m n w → r .minute ≡ finishing p w
   pub events : (p : Plan) → RunReady p s m n w → r .events ≡ length (eventsOfRun p w)
   pub written : (p : Plan) → RunReady p s m n w → log′ ≡ bytesOfAll (eventsOfRun p w) ++ drop (recordBytes * length (eventsOfRun p w)) log
+
+-- ---- a day
+
+-- how many events there are, or 12 where the buffer is shorter than they are; and what the buffer holds then
+abbrev pub dayFor : List plays.Event → List ℕ → Day
+dayFor es out = if ltb (length out) (recordBytes * length es) then day 12 0 0 else day 0 0 (length es)
+
+abbrev pub writtenFor : List plays.Event → List ℕ → List ℕ
+writtenFor es out = if ltb (length out) (recordBytes * length es) then out else bytesOfAll es ++ drop (recordBytes * length es) out
+
+-- there is a plan whose run is asked for
+pub record DayAsks (s : List ℕ) (m n : ℕ) (w : List ℕ) : Type 0 where
+  pub plan : Plan
+  pub ready : RunReady plan s m n w
+
+-- what is answered of each such plan
+pub record DayAs (s : List ℕ) (m n : ℕ) (w out out′ : List ℕ) (d : Day) : Type 0 where
+  pub reply : (p : Plan) → RunReady p s m n w → d ≡ dayFor (eventsOfRun p w) out
+  pub written : (p : Plan) → RunReady p s m n w → out′ ≡ writtenFor (eventsOfRun p w) out
 
 -- ---- the projections
 

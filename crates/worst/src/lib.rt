@@ -8,9 +8,12 @@ use plan::Plan;
 use plan::Refusal;
 use plan::links_of;
 use plan::points_of;
+use projections::chosen;
 use projections::worst_run;
 use rows::SHEET;
 use rows::lay_out;
+use run::day_as;
+use run::write_day;
 use vee::Answer;
 use vee::test;
 
@@ -81,4 +84,27 @@ pub fn worst_of(plan: Plan) -> Worst
     let links = links_of(plan) as usize;
     let found = worst_run(&sheet, plan.count as usize, n, links, many_by(answer));
     Worst::At(found.minute, found.projection)
+}
+
+// The plan's own refusal, 13, 60, 12 where the buffer is too short; else how many events the run of that projection has, and
+// their sixteen bytes each at the front of the buffer. A number past the last projection has none.
+pub fn day_of(plan: Plan, projection: u32, out: &mut [u8]) -> Day
+    ensures reply { λ d. ⌜ d ≡ dayOf plan projection (now (out .entry)) ⌝ }
+    ensures out { λ _. ⌜ now (out .exit) ≡ dayWritten plan projection (now (out .entry)) ⌝ }
+{
+    let answer = test(plan);
+    let refused = refused_by(answer);
+    if refused.number != ACCEPTED {
+        return day_as(refused.number, refused.place, 0);
+    }
+    let many = many_by(answer);
+    if many <= projection {
+        return day_as(ACCEPTED, 0, 0);
+    }
+    let mut sheet = [0u64; SHEET];
+    lay_out(plan, &mut sheet);
+    let n = points_of(plan);
+    let links = links_of(plan) as usize;
+    let w = chosen(&sheet, n as usize + links, links, many, projection);
+    write_day(&sheet, plan.count as usize, n, &w, out)
 }

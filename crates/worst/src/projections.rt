@@ -1,15 +1,12 @@
 // The projections of a plan laid out in rows, by number, and the worst of their runs.
 ghost use mathlib.Core.Path.{_≡_};
 ghost use Rattle.worst.specs.Coded.{ChooseAsks, ChosenAs, WorstAsks, worseFound, FoundOf};
+use crate::run::LOG;
 use crate::run::run;
-use records::RECORD_BYTES;
 use rows::SHEET;
 use rows::index;
 use rows::row_at;
 use tables::SIDE;
-
-// Room for the events of a run: one for each point.
-const LOG: usize = RECORD_BYTES * SIDE;
 
 // A finishing minute, and the projection that has it.
 pub(crate) struct Found {

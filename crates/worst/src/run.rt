@@ -1,17 +1,24 @@
 // The run of a projection, on a plan laid out in rows: its finishing minute, how many events it has, and the events' bytes in
-// a lent log. A plan that passes is assumed, so that the run finishes.
+// a lent log; and the same as a day in a lent buffer. A plan that passes is assumed, so that the run finishes.
 ghost use mathlib.Core.Path.{_≡_};
 ghost use Rattle.promise.specs.Plays.{eventBytes};
-ghost use Rattle.worst.specs.Coded.{asPlayed, RunAsks, RanOf};
+ghost use Rattle.worst.specs.Coded.{asPlayed, RunAsks, RanOf, DayAsks, DayAs};
+ghost use Rattle.worst.specs.WorstMinute.{day};
+use crate::Day;
 use board::after;
 use board::fresh;
 use events::Event;
 use history::first_points;
+use plan::ACCEPTED;
+use plan::NO_ROOM;
 use records::RECORD_BYTES;
 use records::put;
 use rows::SHEET;
 use steps::next_event;
 use tables::SIDE;
+
+// Room for the events of a run: one for each point.
+pub(crate) const LOG: usize = RECORD_BYTES * SIDE;
 
 // The clock of the board on which a run ends, and how many events lead there.
 pub(crate) struct Ran {
@@ -68,4 +75,34 @@ pub(crate) fn run(
         minute: board.clock,
         events: k as u32,
     }
+}
+
+pub(crate) fn day_as(number: u32, place: u32, events: u32) -> Day
+    ensures { λ d. ⌜ d ≡ day number place events ⌝ }
+{
+    Day {
+        number: number,
+        place: place,
+        events: events,
+    }
+}
+
+// The events of a run into the front of the buffer, or 12 where it is too short for them: a first run counts them.
+pub(crate) fn write_day(
+    sheet: &[u64; SHEET],
+    m: usize,
+    n: u32,
+    durations: &[u64; SIDE],
+    out: &mut [u8],
+) -> Day
+    requires { ⌜ DayAsks (now sheet) m n (now durations) ⌝ }
+    ensures { λ d. ⌜ DayAs (now (sheet .entry)) m n (now (durations .entry)) (now (out .entry)) (now (out .exit)) d ⌝ }
+{
+    let mut log = [0u8; LOG];
+    let counted = run(sheet, m, n, durations, &mut log);
+    if out.len() < RECORD_BYTES * counted.events as usize {
+        return day_as(NO_ROOM, 0, 0);
+    }
+    let written = run(sheet, m, n, durations, out);
+    day_as(ACCEPTED, 0, written.events)
 }

@@ -5,7 +5,7 @@ use mathlib.Core.Bool.{Bool, true, false, cond, _&&_}
 use mathlib.Core.List.{List, [], _∷_}
 use Prim.Native.Nat.{ℕ, zero, suc, _+_, _-_, _≤_, _<_, min}
 use native.Mathlib.Omega.{arith}
-use borrow.Author.Tests.{eq-eqb, ne-eqb, lt-ltb, le-ltb, ltb-true, ltb-false}
+use borrow.Author.Tests.{eq-eqb, ne-eqb, lt-ltb, le-ltb, le-leb, lt-leb, ltb-true, ltb-false}
 use lib.Dec.{eqb, ltb}
 use Rattle.points.specs.Sets.{withOf, from, passing, firstOr}
 use Rattle.plan.specs.Choice.{if_then_else_}
@@ -13,8 +13,24 @@ use Rattle.plan.specs.Limits.{mostPoints}
 use Rattle.board.specs.Windows.{never}
 use Rattle.board.specs.Events.{noPoint}
 use Rattle.promise.specs.Plays.{leastOf, setOf}
-use Rattle.steps.specs.Events.{nearer, nearestFrom, nearest}
+use Rattle.steps.specs.Events.{nearer, nearestFrom, nearest, earlier}
 use Rattle.steps.specs.declared.Least.{Least}
+
+-- ---- one point, and the event
+
+-- what is sooner takes the place of what was found, and nothing else does
+pub is-sooner : (found : Least) (t q : ℕ) → t < found .minute → record { minute = t; point = q } ≡ nearer found t q
+is-sooner found t q h = rw (lt-ltb t (found .minute) h) refl
+
+pub no-sooner : (found : Least) (t q : ℕ) → found .minute ≤ t → found ≡ nearer found t q
+no-sooner found t q h = rw (le-ltb t (found .minute) h) refl
+
+-- the aim comes first, unless a link ends before it
+pub aim-first : (aim : Least) (t : ℕ) → aim .minute ≤ t → aim ≡ earlier aim t
+aim-first aim t h = rw (le-leb (aim .minute) t h) refl
+
+pub end-first : (aim : Least) (t : ℕ) → t < aim .minute → record { minute = t; point = noPoint } ≡ earlier aim t
+end-first aim t h = rw (lt-leb (aim .minute) t h) refl
 
 -- ---- the loops
 

@@ -211,12 +211,12 @@ module _ (rs : List Record) (ok : Accepted rs) (b : Board) (g : Sound rs b) (fit
 
     -- what comes first
     event-is : {aim end first : Least} {set : ℕ} → aim ≡ nearest (standing (points rs) (b .done) lows) → end ≡ nearest (standing (points rs) (b .done) ends)
-        → first ≡ earlier aim end → set ≡ setOf (endsThen ends (first .minute)) (from 0 mostPoints)
+        → first ≡ earlier aim (end .minute) → set ≡ setOf (endsThen ends (first .minute)) (from 0 mostPoints)
         → record { minute = first .minute; point = first .point; set = set } ≡ made (comesFirst rs b falls (leastOpen rs b) (firstOpen rs b))
     event-is {aim} {end} {first} {set} ea ee ef es =
         let a = ea ∙ aim-is in
         let m : end .minute ≡ firstEnd rs b falls = ap (λ (l : Least). l .minute) ee ∙ end-is in
-        let f : first ≡ earlier (record { minute = leastOpen rs b; point = firstOpen rs b }) (record { minute = firstEnd rs b falls; point = noPoint }) = ef ∙ rw (a, m) refl in
+        let f : first ≡ earlier (record { minute = leastOpen rs b; point = firstOpen rs b }) (firstEnd rs b falls) = ef ∙ rw (a, m) refl in
         let s : set ≡ endingAt rs b falls (first .minute) = es ∙ ending-is (first .minute) in
         rw (s, f) (go (leb (leastOpen rs b) (firstEnd rs b falls)))
       where
@@ -238,7 +238,7 @@ module _ (rs : List Record) (ok : Accepted rs) (b : Board) (g : Sound rs b) (fit
 -- the event that the code makes
 pub event-of : {s : List ℕ} {m n : ℕ} {w : List ℕ} {b : Board} {h : Heard} {aim end first : Least} {set : ℕ} → ((C : ℕ) → by w C ≤ farthest)
     → HeardOf s m (b .clock) (b .done) (b .minutes) w h → aim ≡ nearest (standing n (b .done) (h .lows)) → end ≡ nearest (standing n (b .done) (h .ends))
-    → first ≡ earlier aim end → set ≡ setOf (endsThen (h .ends) (first .minute)) (from 0 mostPoints)
+    → first ≡ earlier aim (end .minute) → set ≡ setOf (endsThen (h .ends) (first .minute)) (from 0 mostPoints)
     → EventOf s m n w b (record { minute = first .minute; point = first .point; set = set })
 event-of {b = b} {h = h} lasts t ea ee ef es =
     record {

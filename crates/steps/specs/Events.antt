@@ -74,6 +74,6 @@ standing n done table q = if ltb q n && not (member done q) then getD table q 0 
 abbrev pub endsThen : List ℕ → ℕ → ℕ → Bool
 endsThen ends t C = eqb (getD ends C 0) t && ltb t never
 
--- the aim, or the end of a link where that is before it
-abbrev pub earlier : Least → Least → Least
-earlier aim end = if leb (aim .minute) (end .minute) then aim else record { minute = end .minute; point = noPoint }
+-- the aim, or the end of a link at t where that is before it
+abbrev pub earlier : Least → ℕ → Least
+earlier aim t = if leb (aim .minute) t then aim else record { minute = t; point = noPoint }

@@ -229,7 +229,7 @@ fn ending(ends: &[u32; ROOM], t: u32) -> u32
 
 // The aim, or the end of a link where that is before it.
 fn first_of(aim: Least, end: Least) -> Least
-    ensures { λ r. ⌜ r ≡ earlier aim end ⌝ }
+    ensures { λ r. ⌜ r ≡ earlier aim (end .minute) ⌝ }
 {
     if aim.minute <= end.minute {
         aim

@@ -99,8 +99,8 @@ module _ {s : List ℕ} {past links total i : ℕ} {w : List ℕ} {rest left ahe
       digit : left / rest′ < x .second + 1 - x .first
       digit = div-lt-iff-lt-mul {k = rest′} {x = left} {y = ways} next-some .1 (rw (← whole) (c .below))
 
-      pub next-fits : x .first + left / rest′ ≤ farthest
-      next-fits = omega (arith, digit, link-there)
+      pub next-fits : (x .first + left / rest′ ≤ x .second) × (x .second ≤ farthest)
+      next-fits = (omega (arith, digit, link-there), link-there .1)
 
       -- the same projection is left
       step : chosen (spansIn s past (ahead - 1)) (set w (x .over) (x .first + left / rest′)) (left % rest′) ≡ chosen (spansIn s past ahead) w left
@@ -125,7 +125,7 @@ module _ {s : List ℕ} {past links total i : ℕ} {w : List ℕ} {rest left ahe
           small : (C : ℕ) → by (set w (x .over) (x .first + left / rest′)) C ≤ farthest
           small C =
               elim (ℕ-discrete C (x .over)) [
-                | yes e ↦ rw (e, getD-set-same w (x .over) (x .first + left / rest′) 0 (omega (arith, c .wide, link-there))) next-fits
+                | yes e ↦ rw (e, getD-set-same w (x .over) (x .first + left / rest′) 0 (omega (arith, c .wide, link-there))) (omega (arith, next-fits))
                 | no e ↦ rw (getD-set-other w (x .over) C (x .first + left / rest′) 0 e) (c .small C)
               ]
 

@@ -5,10 +5,10 @@ use mathlib.Core.List.{List, [], _∷_, _++_, append-nil, append-assoc}
 use Prim.Native.Nat.{ℕ, zero, suc, _+_, _-_, _*_, _^_, _≤_, _<_}
 use native.Mathlib.Omega.{arith}
 use lib.Dec.{eqb, ltb, leb}
-use lib.ListN.{length, take, drop, length-append}
+use lib.ListN.{length, take, drop, set, length-append}
 use lib.Seq.{paste, take-at, drop-append-add, drop-drop}
 use borrow.Author.Tests.{eq-eqb, ne-eqb, lt-ltb, le-ltb}
-use Rattle.points.specs.Sets.{belowOf, from, membersOf}
+use Rattle.points.specs.Sets.{belowOf, withOf, from, membersOf}
 use Rattle.plan.specs.Choice.{if_then_else_}
 use Rattle.plan.specs.Limits.{mostPoints, farthest, recordBytes}
 use Rattle.plan.specs.APlan.{points, recordsOf}
@@ -18,8 +18,8 @@ use Rattle.records.specs.declared.Record.{Record}
 use Rattle.board.specs.Boards.{fresh, minute, sound}
 use Rattle.board.specs.Windows.{low}
 use Rattle.board.specs.Stuck.{finished}
-use Rattle.board.specs.Events.{eventMinute, eventPoint, eventSet, endsRunning, boardAfter, takeOf}
-use Rattle.board.specs.Inside.{afterEvent}
+use Rattle.board.specs.Events.{eventMinute, eventPoint, eventSet, endsRunning, markAll, boardAfter, takeOf}
+use Rattle.board.specs.Inside.{clockAt, afterEvent}
 use Rattle.board.specs.declared.Board.{Board}
 use Rattle.board.proofs.Theorems.Soundness.{Sound, sound-means}
 use Rattle.events.specs.declared.Event.{Event}
@@ -202,14 +202,21 @@ module _ (p : Plan) {s : List ℕ} {m n : ℕ} {w : List ℕ} (r : RunReady p s 
 
 -- ---- whatever plan the sheet has
 
-pub record Going (s : List ℕ) (m n : ℕ) (w log₀ log : List ℕ) (b : Board) (k : ℕ) : Type 0 where
+-- the clock stays at the minute at which points are marked
+marked-clock : (t : ℕ) (qs : List ℕ) (b : Board) → markAll t qs b .clock ≡ b .clock
+unfolding markAll
+marked-clock t [] b = refl
+marked-clock t (q ∷ qs) b = marked-clock t qs (record { clock = b .clock; done = withOf (b .done) q; minutes = set (b .minutes) q t })
+
+pub record Going (s : List ℕ) (m n : ℕ) (w log₀ log : List ℕ) (b : Board) (last k : ℕ) : Type 0 where
   pub same : length log ≡ length log₀
+  pub clock : last ≡ b .clock
   pub of : (p : Plan) → RunReady p s m n w → Part p w log₀ log b k
 
-pub going-start : (s : List ℕ) (m n : ℕ) (w log : List ℕ) {b : Board} → b ≡ fresh → Going s m n w log log b 0
-going-start s m n w log e = rw e (record { same = refl; of = λ p r. part-start p r log })
+pub going-start : (s : List ℕ) (m n : ℕ) (w log : List ℕ) {b : Board} → b ≡ fresh → Going s m n w log log b 0 0
+going-start s m n w log e = rw e (record { same = refl; clock = refl; of = λ p r. part-start p r log })
 
-module _ {s : List ℕ} {m n : ℕ} {w log₀ log : List ℕ} {b : Board} {k all : ℕ} (g : Going s m n w log₀ log b k) (e : all ≡ belowOf n) where
+module _ {s : List ℕ} {m n : ℕ} {w log₀ log : List ℕ} {b : Board} {last k all : ℕ} (g : Going s m n w log₀ log b last k) (e : all ≡ belowOf n) where
   -- what the code's test says
   not-finished : (b .done ≡ all → ⊥) → (p : Plan) → RunReady p s m n w → finished (recordsOf p) b ≡ false
   not-finished h p r = ne-eqb (b .done) (belowOf (points (recordsOf p))) (λ f. h (f ∙ sym (e ∙ ap belowOf (r .points))))
@@ -236,14 +243,18 @@ module _ {s : List ℕ} {m n : ℕ} {w log₀ log : List ℕ} {b : Board} {k all
       going-less = omega (arith, one-more (asks .plan) (asks .ready) (own .along) (not-finished h (asks .plan) (asks .ready)), asks .ready .points)
 
   pub going-turn : (b .done ≡ all → ⊥) → {e : Event} {log′ bytes : List ℕ} {b′ : Board} → EventOf s m n w b e → bytes ≡ eventBytes (asPlayed e)
-      → log′ ≡ paste log (recordBytes * k) bytes recordBytes → b′ ≡ afterEvent b e → length log′ ≡ length log → Going s m n w log₀ log′ b′ (k + 1)
-  going-turn h o eb el ea same =
-      record { same = same ∙ g .same; of = λ p r. part-turn p r (g .of p r) (not-finished h p r) o eb el ea }
+      → log′ ≡ paste log (recordBytes * k) bytes recordBytes → b′ ≡ afterEvent b e → length log′ ≡ length log → {last′ : ℕ} → last′ ≡ e .minute → Going s m n w log₀ log′ b′ last′ (k + 1)
+  going-turn h {e} o eb el ea same em =
+      record {
+        same = same ∙ g .same;
+        clock = em ∙ sym (ap (λ (b : Board). b .clock) ea ∙ marked-clock (e .minute) _ (clockAt (e .minute) b));
+        of = λ p r. part-turn p r (g .of p r) (not-finished h p r) o eb el ea;
+      }
 
-  pub going-end : b .done ≡ all → RanOf s m n w log₀ log (record { minute = b .clock; events = k })
+  pub going-end : b .done ≡ all → RanOf s m n w log₀ log (record { minute = last; events = k })
   going-end h =
       record {
-        minute = λ p r. part-minute p r (g .of p r) (is-finished h p r);
+        minute = λ p r. g .clock ∙ part-minute p r (g .of p r) (is-finished h p r);
         events = λ p r. part-count p r (g .of p r) (is-finished h p r);
         written = λ p r. part-logged p r (g .of p r) (is-finished h p r);
       }

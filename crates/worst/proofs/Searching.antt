@@ -6,6 +6,7 @@ use Prim.Native.Nat.{ℕ, suc, _+_, _*_, _≤_, _<_}
 use native.Mathlib.Omega.{arith}
 use native.Mathlib.Numerals.{add-one}
 use lib.Dec.{ltb}
+use borrow.Author.Tests.{lt-ltb, le-ltb}
 use lib.ListN.{length, getD, drop}
 use lib.Seq.{drop-cons, drop-length}
 use Rattle.plan.specs.Choice.{if_then_else_}
@@ -27,6 +28,13 @@ use Rattle.worst.specs.declared.projections.Found.{Found}
 use Rattle.worst.proofs.Decoding.{projection-chosen}
 use Rattle.worst.proofs.Going.{few-of-run}
 use Rattle.worst.proofs.Stands.{projection-in-bounds}
+
+-- a later minute takes the place of what was found, and nothing else does
+pub is-worse : (found : Found) (t i : ℕ) → found .minute < t → record { minute = t; projection = i } ≡ worseFound found t i
+is-worse found t i h = rw (lt-ltb (found .minute) t h) refl
+
+pub no-worse : (found : Found) (t i : ℕ) → t ≤ found .minute → found ≡ worseFound found t i
+no-worse found t i h = rw (le-ltb (found .minute) t h) refl
 
 -- ---- one plan
 

@@ -1,5 +1,7 @@
 // The projections of a plan laid out in rows, by number, and the worst of their runs.
 ghost use mathlib.Core.Path.{_≡_};
+ghost use Prim.Native.Nat.{_+_, _≤_};
+ghost use Rattle.plan.specs.Limits.{farthest};
 ghost use Rattle.worst.specs.Coded.{ChooseAsks, ChosenAs, WorstAsks, worseFound, FoundOf};
 use crate::run::LOG;
 use crate::run::run;
@@ -12,6 +14,14 @@ use tables::SIDE;
 pub(crate) struct Found {
     pub minute: u32,
     pub projection: u32,
+}
+
+// The duration of a link that is so far past its least.
+fn lasting(least: u64, most: u64, digit: u64) -> u64
+    requires { ⌜ (least + digit ≤ most) × (most ≤ farthest) ⌝ }
+    ensures { λ p. ⌜ p ≡ least + digit ⌝ }
+{
+    least + digit
 }
 
 // The durations of projection `number` of the `many` that the links of the `links` rows before row `past` have: the number's
@@ -33,7 +43,7 @@ pub(crate) fn chosen(
     while 0 < ahead {
         let row = row_at(sheet, past - ahead);
         rest = rest / (row.second + 1 - row.first);
-        w[index(row.over)] = row.first + left / rest;
+        w[index(row.over)] = lasting(row.first, row.second, left / rest);
         left = left % rest;
         ahead -= 1;
     }

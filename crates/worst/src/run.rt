@@ -20,7 +20,7 @@ use tables::SIDE;
 // Room for the events of a run: one for each point.
 pub(crate) const LOG: usize = RECORD_BYTES * SIDE;
 
-// The clock of the board on which a run ends, and how many events lead there.
+// The minute of a run's last event, which is the clock of the board on which it ends, and how many events lead there.
 pub(crate) struct Ran {
     pub minute: u32,
     pub events: u32,
@@ -64,15 +64,17 @@ pub(crate) fn run(
 {
     let all = first_points(n);
     let mut board = fresh();
+    let mut minute: u32 = 0;
     let mut k: usize = 0;
     while board.done != all {
         let e = next_event(sheet, m, n, durations, board);
+        minute = e.minute;
         put(log, RECORD_BYTES * k, event_bytes(e));
         board = after(board, e);
         k += 1;
     }
     Ran {
-        minute: board.clock,
+        minute: minute,
         events: k as u32,
     }
 }

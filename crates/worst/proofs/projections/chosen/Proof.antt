@@ -1,7 +1,7 @@
 -- `worst::projections::chosen` meets its contract. Assumes nothing.
+use mathlib.Core.Path.{refl}
 use Prim.Native.Nat.{ℕ, _-_}
 use Rattle.worst.proofs.Choosing.{Choosing, choosing-start, row-there, link-there, next-some, next-fits, choosing-turn, choosing-end}
-use mathlib.Core.Path.{refl}
 use borrow.Author.Needs.{needs}
 use native.Mathlib.Omega.{arith}
 use Rattle.worst.proofs.projections.chosen.Statement.{statement}
@@ -31,11 +31,11 @@ sub-rest c = omega (arith, link-there (c .before .before .before .before .loop .
 div-rest : tie.Need-div-rest Inv-loop μ-loop
 div-rest c = omega (arith, link-there (c .before .before .before .before .loop .inv) (c .before .before .before .loop-test .taken) (c .before .before .row-at .ensures))
 
-div-w : tie.Need-div-w Inv-loop μ-loop
-div-w c = omega (arith, next-some (c .before .before .before .before .loop .inv) (c .before .before .before .loop-test .taken) (c .before .before .row-at .ensures) refl)
+div-lasting : tie.Need-div-lasting Inv-loop μ-loop
+div-lasting c = omega (arith, next-some (c .before .before .before .before .loop .inv) (c .before .before .before .loop-test .taken) (c .before .before .row-at .ensures) refl)
 
-add-w : tie.Need-add-w Inv-loop μ-loop
-add-w c = omega (arith, next-fits (c .before .before .before .before .before .loop .inv) (c .before .before .before .before .loop-test .taken) (c .before .before .before .row-at .ensures) refl)
+lasting-requires : tie.Need-lasting-requires Inv-loop μ-loop
+lasting-requires c κs = next-fits (c .before .before .before .before .loop .inv) (c .before .before .before .loop-test .taken) (c .before .before .row-at .ensures) refl
 
 index-requires : tie.Need-index-requires Inv-loop μ-loop
 index-requires c κs = search needs
@@ -56,7 +56,7 @@ loop-less : tie.Need-loop-less Inv-loop μ-loop
 loop-less c = search needs
 
 loop-again : tie.Need-loop-again Inv-loop μ-loop
-loop-again c = choosing-turn (c .before .before .before .before .before .before .loop .inv) (c .before .before .before .before .before .loop-test .taken) (c .before .before .before .before .row-at .ensures) refl (rw (c .index .ensures)) refl
+loop-again c = choosing-turn (c .before .before .before .before .before .before .loop .inv) (c .before .before .before .before .before .loop-test .taken) (c .before .before .before .before .row-at .ensures) refl (rw (c .index .ensures, c .before .lasting .ensures)) refl
 
 returns : tie.Need-returns Inv-loop μ-loop
 returns c = choosing-end (c .before .loop .inv) (omega arith)
@@ -73,8 +73,8 @@ chosen-spec =
     add-rest
     sub-rest
     div-rest
-    div-w
-    add-w
+    div-lasting
+    lasting-requires
     index-requires
     mul-w
     array-write-w

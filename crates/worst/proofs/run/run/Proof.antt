@@ -1,4 +1,5 @@
 -- `worst::run::run` meets its contract. Assumes nothing.
+use mathlib.Core.Path.{refl}
 use Prim.Native.Nat.{ℕ, _-_}
 use Rattle.worst.proofs.Going.{Going, going-start, going-step, going-few, going-room, going-less, going-turn, going-end}
 use borrow.Author.Needs.{needs}
@@ -7,10 +8,10 @@ use Rattle.worst.proofs.run.run.Statement.{statement}
 use Rattle.worst.proofs.run.run.Tie as tie
 
 abbrev Inv-loop : tie.InvT-loop
-Inv-loop sheet m n durations log₀ all board₀ k₀ log board k = Going sheet m n durations log₀ log board k
+Inv-loop sheet m n durations log₀ all board₀ minute₀ k₀ log board minute k = Going sheet m n durations log₀ log board minute k
 
 abbrev μ-loop : tie.MeasureT-loop
-μ-loop sheet m n durations log₀ all board₀ k₀ log board k = n - k
+μ-loop sheet m n durations log₀ all board₀ minute₀ k₀ log board minute k = n - k
 
 first-points-requires : tie.Need-first-points-requires Inv-loop μ-loop
 first-points-requires c κs = search needs
@@ -53,9 +54,10 @@ loop-again c =
     (c .before .before .before .put .ensures)
     (c .after .ensures)
     (c .before .before .before .put .kept .0)
+    refl
 
-cast-t16 : tie.Need-cast-t16 Inv-loop μ-loop
-cast-t16 c = omega (arith, going-few (c .before .before .loop .inv) (c .before .before .before .before .first-points .ensures) (c .before .before .before .before .before .before .pre))
+cast-t17 : tie.Need-cast-t17 Inv-loop μ-loop
+cast-t17 c = omega (arith, going-few (c .before .before .loop .inv) (c .before .before .before .before .first-points .ensures) (c .before .before .before .before .before .before .pre))
 
 same-length : tie.Need-same-length Inv-loop μ-loop
 same-length c = c .before .before .loop .inv .same
@@ -80,6 +82,6 @@ run-spec =
     add-k
     loop-less
     loop-again
-    cast-t16
+    cast-t17
     same-length
     returns)

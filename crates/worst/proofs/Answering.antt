@@ -32,7 +32,7 @@ use Rattle.worst.specs.declared.Worst.{Worst}
 use Rattle.worst.specs.declared.Worst.the-variants.{Refused, At}
 use Rattle.worst.specs.declared.projections.Found as found
 use Rattle.worst.proofs.Stands.{Granted, granted}
-use Rattle.worst.proofs.Searching.{few-rows, choose-asks, chosen-is, run-ready}
+use Rattle.worst.proofs.Searching.{choose-asks, chosen-is, run-ready}
 
 -- nothing that is found of projections is a refusal
 never-refused : {E : List ℕ → ℕ → ℕ → ℕ → ℕ → Type 0} {i n j : ℕ} {ws : List (List ℕ)} {a : Answer} → Found E i ws a → a ≡ answer.Refused n j → ⊥
@@ -139,9 +139,6 @@ module _ {p : Plan} where
         {i : ℕ} (h : i < total) where
       abbrev every : AllReady p s (p .count) n k total
       every = all-ready none long laid en ek et
-
-      pub day-rows : n + k ≤ mostRecords
-      day-rows = few-rows p every
 
       pub day-chooses : ChooseAsks s (n + k) k total i
       day-chooses = choose-asks p every i h

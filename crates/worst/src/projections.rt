@@ -16,12 +16,13 @@ pub(crate) struct Found {
     pub projection: u32,
 }
 
-// The duration of a link that is so far past its least.
+// The duration of a link that is so far past its least, and not past its most.
 fn lasting(least: u64, most: u64, digit: u64) -> u64
     requires { ⌜ (least + digit ≤ most) × (most ≤ farthest) ⌝ }
     ensures { λ p. ⌜ p ≡ least + digit ⌝ }
 {
-    least + digit
+    let p = least + digit;
+    if p < most { p } else { most }
 }
 
 // The durations of projection `number` of the `many` that the links of the `links` rows before row `past` have: the number's

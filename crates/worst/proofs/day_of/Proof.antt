@@ -2,7 +2,8 @@
 use Prim.Native.Nat.{ℕ}
 use lib.ListN.{length-map, length-replicate}
 use Rattle.rows.specs.Sheet.{sheetRoom}
-use Rattle.worst.proofs.Answering.{day-refused, day-past, few-records, day-rows, day-chooses, day-asks, day-found}
+use Rattle.worst.proofs.Searching.{few-rows}
+use Rattle.worst.proofs.Answering.{day-refused, day-past, few-records, all-ready, day-chooses, day-asks, day-found}
 use native.Mathlib.Omega.{arith}
 use borrow.Author.Needs.{needs}
 use Rattle.worst.proofs.day_of.Statement.{statement}
@@ -28,7 +29,7 @@ day-as-requires-2 c κs = search needs
 
 returns-2 : tie.Need-returns-2
 returns-2 c =
-    day-past (c .before .before .before .before .before .before .test .ensures .0) (c .before .before .before .before .before .refused-by .ensures) _ _ (c .before .before .before .if1 .left) (c .before .before .many-by .ensures) (c .before .if2 .taken) (c .day-as2 .ensures)
+    day-past (c .before .before .before .before .before .before .test .ensures .0) (c .before .before .before .before .before .refused-by .ensures) _ _ (c .before .before .before .if1 .left) (c .before .before .many-by .ensures) (omega (arith, c .before .if2 .taken)) (c .day-as2 .ensures)
 
 lay-out-requires : tie.Need-lay-out-requires
 lay-out-requires c κs = (few-records (c .before .before .before .before .before .before .test .ensures .0) (c .before .before .before .before .before .refused-by .ensures) (c .before .before .before .if1 .left), length-replicate {A = ℕ} sheetRoom 0)
@@ -49,7 +50,7 @@ add-chosen : tie.Need-add-chosen
 add-chosen c =
     omega (
       arith,
-      day-rows
+      few-rows _ (all-ready
           (c .before .before .before .before .before .before .before .before .before .before .test .ensures .0)
           (c .before .before .before .before .before .before .before .before .before .refused-by .ensures)
           (c .before .before .before .before .before .before .before .if1 .left)
@@ -57,8 +58,7 @@ add-chosen c =
           (c .before .before .before .lay-out .ensures)
           (c .before .before .points-of .ensures)
           (c .before .links-of .ensures)
-          (c .before .before .before .before .before .before .many-by .ensures)
-          (c .before .before .before .before .before .if2 .left),
+          (c .before .before .before .before .before .before .many-by .ensures)),
     )
 
 chosen-requires : tie.Need-chosen-requires
@@ -72,7 +72,7 @@ chosen-requires c κs =
     (c .before .before .points-of .ensures)
     (c .before .links-of .ensures)
     (c .before .before .before .before .before .before .many-by .ensures)
-    (c .before .before .before .before .before .if2 .left)
+    (omega (arith, c .before .before .before .before .before .if2 .left))
 
 cast-write-day : tie.Need-cast-write-day
 cast-write-day c = search needs
@@ -88,7 +88,7 @@ write-day-requires c κs =
     (c .before .before .before .before .before .before .before .points-of .ensures)
     (c .before .before .before .before .before .before .links-of .ensures)
     (c .before .before .before .before .before .before .before .before .before .before .before .many-by .ensures)
-    (c .before .before .before .before .before .before .before .before .before .before .if2 .left)
+    (omega (arith, c .before .before .before .before .before .before .before .before .before .before .if2 .left))
     (c .before .before .before .before .chosen .ensures)
 
 same-length : tie.Need-same-length
@@ -105,7 +105,7 @@ returns-3 c =
     (c .before .before .before .before .before .before .before .before .before .before .points-of .ensures)
     (c .before .before .before .before .before .before .before .before .before .links-of .ensures)
     (c .before .before .before .before .before .before .before .before .before .before .before .before .before .before .many-by .ensures)
-    (c .before .before .before .before .before .before .before .before .before .before .before .before .before .if2 .left)
+    (omega (arith, c .before .before .before .before .before .before .before .before .before .before .before .before .before .if2 .left))
     (c .before .before .before .before .before .before .before .chosen .ensures)
     (c .before .before .write-day .ensures)
 

@@ -1,5 +1,4 @@
 -- `worst::run::run` meets its contract. Assumes nothing.
-use mathlib.Core.Path.{refl}
 use Prim.Native.Nat.{ℕ, _-_}
 use Rattle.worst.proofs.Going.{Going, going-start, going-step, going-few, going-room, going-less, going-turn, going-end}
 use borrow.Author.Needs.{needs}
@@ -54,7 +53,7 @@ loop-again c =
     (c .before .before .before .put .ensures)
     (c .after .ensures)
     (c .before .before .before .put .kept .0)
-    refl
+    (omega arith)
 
 cast-t17 : tie.Need-cast-t17 Inv-loop μ-loop
 cast-t17 c = omega (arith, going-few (c .before .before .loop .inv) (c .before .before .before .before .first-points .ensures) (c .before .before .before .before .before .before .pre))

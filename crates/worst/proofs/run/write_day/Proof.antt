@@ -24,10 +24,10 @@ day-as-requires : tie.Need-day-as-requires
 day-as-requires c κs = search needs
 
 returns : tie.Need-returns
-returns c = day-short (c .before .before .before .before .before .before .before .pre) (c .before .before .before .before .run .ensures) (c .before .if1 .taken) (c .day-as .ensures)
+returns c = day-short (c .before .before .before .before .before .before .before .pre) (c .before .before .before .before .run .ensures) (omega (arith, c .before .if1 .taken)) (c .day-as .ensures)
 
 run-requires-2 : tie.Need-run-requires-2
-run-requires-2 c κs = day-runs (c .before .before .before .before .before .before .before .pre) (c .before .before .before .before .run .ensures) (c .before .if1 .left)
+run-requires-2 c κs = day-runs (c .before .before .before .before .before .before .before .pre) (c .before .before .before .before .run .ensures) (omega (arith, c .before .if1 .left))
 
 day-as-requires-2 : tie.Need-day-as-requires-2
 day-as-requires-2 c κs = search needs
@@ -36,7 +36,7 @@ same-length : tie.Need-same-length
 same-length c = search needs
 
 returns-2 : tie.Need-returns-2
-returns-2 c = day-written (c .before .before .before .before .before .before .before .before .before .before .before .pre) (c .before .before .before .before .before .before .before .before .run .ensures) (c .before .before .before .before .before .if1 .left) (c .before .before .before .run2 .ensures) (c .day-as2 .ensures)
+returns-2 c = day-written (c .before .before .before .before .before .before .before .before .before .before .before .pre) (c .before .before .before .before .before .before .before .before .run .ensures) (omega (arith, c .before .before .before .before .before .if1 .left)) (c .before .before .before .run2 .ensures) (c .day-as2 .ensures)
 
 pub write-day-spec : {M : Type 1} → statement M
 write-day-spec =

@@ -30,6 +30,9 @@ use Rattle.lent.specs.Judgement.{judgeOf}
 use Rattle.lent.specs.declared.Judged.{Judged}
 use Rattle.vee.specs.PlanTest.{Tested}
 use Rattle.vee.specs.declared.Answer.{Answer}
+use Rattle.worst.specs.WorstMinute.{worstOf, dayOf, dayWritten}
+use Rattle.worst.specs.declared.Worst.{Worst}
+use Rattle.worst.specs.declared.Day.{Day}
 use Rattle.replies.specs.declared.Place.{Place}
 use Rattle.lines.specs.Text.{lineOf}
 use Rattle.text.specs.Lines.{planLine, numbersLine, eventLine, replyLine, testLine, boardLine, pointLine, tailLine, endLine}
@@ -80,6 +83,10 @@ pub record SingleReplies : Type 0 where
   pub judge-list : (p : Plan) (b : Board) (list : List Bound) (count : ℕ) → Single (λ (r : Judged). r ≡ judgeOf p b (take count list))
   -- vee
   pub test : (p : Plan) → Single (λ (r : Answer). Tested p r)
+  -- worst
+  pub worst-of : (p : Plan) → Single (λ (r : Worst). r ≡ worstOf p)
+  pub day-of : (p : Plan) (projection : ℕ) (out : List ℕ)
+      → SingleBoth (λ (r : Day). r ≡ dayOf p projection out) (λ (held : List ℕ). held ≡ dayWritten p projection out)
   -- text
   pub blank : Single (λ (r : Line). r ≡ lineOf [])
   pub plan-line : (number place : ℕ) → Single (λ (r : Line). r ≡ planLine number place)

@@ -2,12 +2,14 @@
 // print of it. Every function here has an exact contract; reading and writing are `printing`'s. An inner room of the two
 // programs: some functions have a `requires`, which every caller is proved to meet.
 mod bytes;
+mod front;
 mod list;
 mod sheet;
 
 pub use bytes::behind;
 pub use bytes::fits;
 pub use bytes::within;
+pub use front::read_front;
 pub use list::line_at;
 pub use list::listed;
 pub use sheet::BEGUN;

@@ -101,7 +101,7 @@ unfoldable pub isShaped : List ℕ → Bool
 isShaped f =
     eqb (length f) 6
     && ((isCapital (getD f 0 0) && isCapital (getD f 1 0))
-      && (isDigit (getD f 2 0) && (isDigit (getD f 3 0) && (isDigit (getD f 4 0) && isDigit (getD f 5 0)))))
+    && (isDigit (getD f 2 0) && (isDigit (getD f 3 0) && (isDigit (getD f 4 0) && isDigit (getD f 5 0)))))
 
 -- (26 × first + second) × 10,000 + digits + 1, with A as 0 and Z as 25
 unfoldable pub shapedCode : List ℕ → ℕ

@@ -64,7 +64,7 @@ fn mark(board: Board, p: u8, t: u32) -> Board
 }
 
 // The board after an event.
-fn after(board: Board, e: Event) -> Board
+pub fn after(board: Board, e: Event) -> Board
     ensures { λ b. ⌜ b ≡ afterEvent board e ⌝ }
 {
     let next = mark_set(board, e.set, e.minute);

@@ -1,6 +1,6 @@
 // The board: soundness and events. Document 01, "Board, windows, replies" and "Events"; specs/ states them in that order.
 // `fresh`, `minute_of`, `is_sound`, `is_finished`, `take` and `take_all` take any plan, any board and any bytes and answer;
-// `windows_of` and `is_stuck` serve the crate `replies` and assume what their contracts ask.
+// `windows_of` and `is_stuck` serve the crate `replies` and assume what their contracts ask; `after` serves `worst`.
 
 ghost use mathlib.Core.Path.{_≡_};
 ghost use Rattle.board.specs.Boards.{fresh};
@@ -10,6 +10,7 @@ mod sound;
 mod standing;
 mod stream;
 
+pub use event::after;
 pub use links::BEFORE_CLOCK;
 pub use links::NOT_IN_TIME;
 pub use links::NOT_RUNNING;

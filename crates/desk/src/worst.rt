@@ -15,6 +15,6 @@ pub(crate) fn run() {
     }
     say(
         STDOUT_FILENO,
-        answers::worst_line(worst::worst(reading.plan)),
+        answers::worst_line(worst::worst_of(reading.plan)),
     )
 }

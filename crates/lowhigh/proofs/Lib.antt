@@ -1,3 +1,3 @@
 -- The modules of proofs that belong to no one function.
-mod Windowing
-mod Smallness
+pub mod Windowing
+pub mod Smallness

@@ -37,7 +37,7 @@ pub record Fine (rs : List Record) (r : Record) : Type 0 where
   pub ends : is wait r ≡ true → watched rs (r .b) ≡ true
 
 -- ordinary, a wait, or neither
-by-kind : (P : Type 0) (r : Record) → (is ordinary r ≡ true → is wait r ≡ false → P) → (is ordinary r ≡ false → is wait r ≡ true → P)
+pub by-kind : (P : Type 0) (r : Record) → (is ordinary r ≡ true → is wait r ≡ false → P) → (is ordinary r ≡ false → is wait r ≡ true → P)
     → (is ordinary r ≡ false → is wait r ≡ false → P) → P
 by-kind P r f g h = go (is ordinary r) (is wait r) refl refl
   where
@@ -48,31 +48,31 @@ by-kind P r f g h = go (is ordinary r) (is wait r) refl refl
 
 -- ---- lists with one record more
 
-greatest-snoc : (f : Record → ℕ) (rs : List Record) (r : Record) → greatest f (rs ++ (r ∷ [])) ≡ max (greatest f rs) (f r)
+pub greatest-snoc : (f : Record → ℕ) (rs : List Record) (r : Record) → greatest f (rs ++ (r ∷ [])) ≡ max (greatest f rs) (f r)
 unfolding greatest
 greatest-snoc f [] r = omega arith
 greatest-snoc f (x ∷ rs) r = omega (arith, greatest-snoc f rs r)
 
-least-snoc : (f : Record → ℕ) (rs : List Record) (r : Record) → least f (rs ++ (r ∷ [])) ≡ min (least f rs) (f r)
+pub least-snoc : (f : Record → ℕ) (rs : List Record) (r : Record) → least f (rs ++ (r ∷ [])) ≡ min (least f rs) (f r)
 unfolding least
 least-snoc f [] r = omega arith
 least-snoc f (x ∷ rs) r = omega (arith, least-snoc f rs r)
 
-least-le : (f : Record → ℕ) (rs : List Record) → least f rs ≤ never
+pub least-le : (f : Record → ℕ) (rs : List Record) → least f rs ≤ never
 unfolding least
 least-le f [] = omega arith
 least-le f (x ∷ rs) = omega (arith, least-le f rs)
 
 -- ---- one place of a table
 
-put-low : (lows : List ℕ) (p q v : ℕ) → p < length lows → getD (set lows p (max (getD lows p 0) v)) q 0 ≡ max (getD lows q 0) (if eqb p q then v else 0)
+pub put-low : (lows : List ℕ) (p q v : ℕ) → p < length lows → getD (set lows p (max (getD lows p 0) v)) q 0 ≡ max (getD lows q 0) (if eqb p q then v else 0)
 put-low lows p q v h = go (ℕ-discrete q p)
   where
     go : Dec (q ≡ p) → getD (set lows p (max (getD lows p 0) v)) q 0 ≡ max (getD lows q 0) (if eqb p q then v else 0)
     go (yes e) = rw (e, eq-eqb p p refl, getD-set-same lows p (max (getD lows p 0) v) 0 h)
     go (no n) = rw (getD-set-other lows p q (max (getD lows p 0) v) 0 n, ne-eqb p q (λ e. n (sym e))) (omega arith)
 
-put-high : (highs : List ℕ) (p q v : ℕ) → p < length highs → getD highs q 0 ≤ never
+pub put-high : (highs : List ℕ) (p q v : ℕ) → p < length highs → getD highs q 0 ≤ never
     → getD (set highs p (min (getD highs p 0) v)) q 0 ≡ min (getD highs q 0) (if eqb p q then v else never)
 put-high highs p q v h l = go (ℕ-discrete q p)
   where

@@ -1,6 +1,6 @@
 // What the records of a plan say of its points, from what has happened as plain values: one pass keeps the set of shut
 // points and two tables, of the Lows and of the Highs. A plan that `check` accepts and small minutes are assumed, so that
-// every number fits. A High can be below zero, and is kept 100,000 up. An inner room: it serves `windows`.
+// every number fits. A High can be below zero, and is kept 100,000 up. An inner room: it serves `windows` and `steps`.
 ghost use mathlib.Core.Path.{_≡_};
 ghost use Prim.Native.Nat.{_-_, _≤_, max, min};
 ghost use Rattle.points.specs.Sets.{withOf};
@@ -26,7 +26,7 @@ pub const FARTHEST: u32 = plan::FARTHEST as u32;
 // Past every minute.
 pub const NEVER: u32 = 4294967295;
 
-fn larger(x: u32, y: u32) -> u32
+pub fn larger(x: u32, y: u32) -> u32
     ensures { λ r. ⌜ r ≡ max x y ⌝ }
 {
     if x < y { y } else { x }
@@ -60,14 +60,14 @@ pub struct Said {
     pub high: u32,
 }
 
-fn either(so: bool, x: u32, y: u32) -> u32
+pub fn either(so: bool, x: u32, y: u32) -> u32
     ensures { λ r. ⌜ r ≡ (if so then x else y) ⌝ }
 {
     if so { x } else { y }
 }
 
 // The set with a point more where `so`.
-fn with_if(so: bool, s: u32, p: u8) -> u32
+pub fn with_if(so: bool, s: u32, p: u8) -> u32
     ensures { λ r. ⌜ r ≡ (if so then withOf s p else s) ⌝ }
 {
     if so { with(s, p) } else { s }

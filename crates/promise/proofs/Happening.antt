@@ -47,7 +47,7 @@ pub record Reads (s : List ℕ) (e : Event) : Type 0 where
   pub long : length s ≡ recordBytes
   pub zeros : (getD s 5 0 ≡ 0) × (getD s 6 0 ≡ 0) × (getD s 7 0 ≡ 0) × (wordAt s 12 ≡ 0)
 
-reads : (e : Event) → e .minute < 2 ^ 32 → e .set < 2 ^ 32 → Reads (eventBytes e) e
+pub reads : (e : Event) → e .minute < 2 ^ 32 → e .set < 2 ^ 32 → Reads (eventBytes e) e
 reads e m s =
     record { minute = word-back (e .minute) m []; point = refl; set = word-back (e .set) s []; long = refl; zeros = (refl, refl, refl, refl) }
 

@@ -69,7 +69,8 @@ only (is-good g) = good g all-good
 only (has-cycle c) = cycle c
 only (has-pair p) = pair p
 
-unfolded : (s : List ℕ) (past k : ℕ) → 0 < k → spansIn s past k ≡ spanAt s (past - k) ∷ spansIn s past (k - 1)
+-- the first of the links
+pub unfolded : (s : List ℕ) (past k : ℕ) → 0 < k → spansIn s past k ≡ spanAt s (past - k) ∷ spansIn s past (k - 1)
 unfolding spansIn
 unfolded s past zero h = absurd (omega arith)
 unfolded s past (suc k) h = let e : suc k - 1 ≡ k = omega arith in rw e refl

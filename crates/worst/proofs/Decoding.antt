@@ -35,7 +35,7 @@ spread-at f m some long C p (suc k) u i h = go (decLt i m) (λ l. spread-at f m 
         ∙ getD-append-add (f (set u C p)) (spread f C (suc p) k u) (i - m) [] ∙ on (omega arith))
 
 -- where there are any, there are some for each link's duration
-some-left : (a m i : ℕ) → i < a * m → 0 < m
+pub some-left : (a m i : ℕ) → i < a * m → 0 < m
 some-left a zero i h = absurd (omega (arith, rw (mul-zero a) at h))
 some-left a (suc m) i h = omega arith
 

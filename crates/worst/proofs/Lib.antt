@@ -9,3 +9,7 @@ pub mod OnRuns
 pub mod Decoding
 pub mod Largest
 pub mod Stands
+mod Going
+mod Choosing
+mod Searching
+mod Answering

@@ -235,7 +235,7 @@ module _ (p : Plan) (ok : checkOf p .number ≡ 0) (passes : PassesPlan p) (w : 
       go false h = h
 
   -- what is left of the run leads to its end
-  rest-of : (n m : ℕ) {b : Board} {k : ℕ} → Along p w b k → m ≡ n + k → runFrom p w m fresh ≡ runFrom p w n b
+  pub rest-of : (n m : ℕ) {b : Board} {k : ℕ} → Along p w b k → m ≡ n + k → runFrom p w m fresh ≡ runFrom p w n b
   unfolding runFrom
   rest-of n m start e = let z : m ≡ n = omega arith in rw z refl
   rest-of n m (next {b} {k} a f) e = rest-of (suc n) m a (omega arith) ∙ rw f refl

@@ -163,13 +163,13 @@ module _ (p : Plan) where
   unfolding worstOf refusedOf
   many-answered ok l = rw (ok, lt-ltb mostProjections (many (spans (recordsOf p))) l)
 
-  -- a plan that is not refused
-  record Granted : Type 0 where
-    ok : checkOf p .number ≡ 0
-    few : many (spans (recordsOf p)) ≤ mostProjections
-    passes : PassesPlan p
+  -- A plan that is not refused.
+  pub record Granted : Type 0 where
+    pub ok : checkOf p .number ≡ 0
+    pub few : many (spans (recordsOf p)) ≤ mostProjections
+    pub passes : PassesPlan p
 
-  granted : refusedOf p .number ≡ 0 → Granted
+  pub granted : refusedOf p .number ≡ 0 → Granted
   unfolding refusedOf
   granted e = go (eqb (checkOf p .number) 0) (ltb mostProjections (many (spans (recordsOf p)))) (isYes (testOf p)) refl refl refl e
     where

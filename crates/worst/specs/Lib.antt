@@ -3,3 +3,4 @@ pub mod ProjectionRuns
 pub mod WorstMinute
 pub mod Inside
 pub mod Promises
+pub mod Coded

@@ -2,6 +2,7 @@
 // print of it. Every function here has an exact contract; reading and writing are `printing`'s. An inner room of the two
 // programs: some functions have a `requires`, which every caller is proved to meet.
 mod bytes;
+mod front;
 mod list;
 mod many;
 mod sheet;
@@ -9,6 +10,7 @@ mod sheet;
 pub use bytes::behind;
 pub use bytes::fits;
 pub use bytes::within;
+pub use front::read_front;
 pub use list::ROOM;
 pub use list::line_at;
 pub use list::listed;

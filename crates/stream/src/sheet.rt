@@ -3,11 +3,10 @@
 // which has room for more than any plan.
 ghost use mathlib.Core.Path.{_≡_};
 ghost use Prim.Native.Nat.{_≤_};
-ghost use Rattle.stream.specs.Sheets.{start, turned, isMark, shown, begunOf, longer, playedOf, quiet, nextOf, endedOf};
-use crate::bytes::within;
+ghost use Rattle.stream.specs.Sheets.{start, turned, isMark, begunOf, longer, playedOf, quiet, nextOf, endedOf};
+use crate::front::read_front;
 use board::Taken;
 use plan::ACCEPTED;
-use plan::MOST_RECORDS;
 use plan::Plan;
 use plan::RECORD_BYTES;
 use std::num::wrapping_add_u64;
@@ -56,19 +55,6 @@ fn is_mark(bytes: &[u8]) -> bool
     true
 }
 
-// So many bytes of a plan part are read: all of it, or, where it is longer than any plan, one record more than a plan may
-// have and what its length leaves over.
-fn shown(length: u64) -> usize
-    ensures { λ n. ⌜ n ≡ shown length ⌝ }
-{
-    let most = RECORD_BYTES * (MOST_RECORDS + 1);
-    if length < most as u64 {
-        length as usize
-    } else {
-        most + (length % RECORD_BYTES as u64) as usize
-    }
-}
-
 impl Sheet {
     // Nothing has come yet.
     pub fn new() -> Sheet
@@ -112,8 +98,7 @@ impl Sheet {
     fn begun(self, front: &[u8]) -> Sheet
         ensures { λ s. ⌜ s ≡ begunOf self (now (front .entry)) ⌝ }
     {
-        let n = within(shown(self.length), front);
-        let reading = plan::read(&front[..n]);
+        let reading = read_front(self.length, front);
         let before = self.taken;
         if reading.number == ACCEPTED {
             let plan = reading.plan;

@@ -1,10 +1,10 @@
--- `stream::sheet::shown` meets its contract. Assumes nothing.
+-- `stream::front::shown` meets its contract. Assumes nothing.
 use Prim.Native.Nat.{_+_, _*_}
 use borrow.Author.Tests.{lt-ltb, le-ltb}
 use Rattle.plan.specs.Limits.{recordBytes, mostRecords}
 use borrow.Author.Needs.{needs}
-use Rattle.stream.proofs.sheet.shown.Statement.{statement}
-use Rattle.stream.proofs.sheet.shown.Tie as tie
+use Rattle.stream.proofs.front.shown.Statement.{statement}
+use Rattle.stream.proofs.front.shown.Tie as tie
 
 add-most : tie.Need-add-most
 add-most c = search needs

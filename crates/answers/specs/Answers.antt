@@ -1,0 +1,24 @@
+-- The lines of the program `desk`: `worst MINUTE PROJECTION`; a refusal is the verb and the number, where the plan itself has been
+-- read. A word is the codes of its letters to the base 256, the first letter lowest. Assumes nothing.
+use mathlib.Core.List.{[], _∷_}
+use Prim.Native.Nat.{ℕ}
+use Rattle.lines.specs.Text.{said}
+use Rattle.lines.specs.declared.Line.{Line}
+use Rattle.lines.specs.declared.Piece.the-variants.{Name, Number}
+use Rattle.worst.specs.declared.Worst.{Worst}
+use Rattle.worst.specs.declared.Worst.the-variants.{Refused, At}
+
+abbrev pub worstWord : ℕ
+worstWord = 0x7473726f77
+
+abbrev pub dayWord : ℕ
+dayWord = 0x796164
+
+-- worst MINUTE PROJECTION, worst NUMBER
+abbrev pub worstLine : Worst → Line
+worstLine (At t i) = said (Name worstWord) (Number t ∷ Number i ∷ [])
+worstLine (Refused n i) = said (Name worstWord) (Number n ∷ [])
+
+-- day NUMBER
+abbrev pub dayRefused : ℕ → Line
+dayRefused n = said (Name dayWord) (Number n ∷ [])

@@ -1,0 +1,29 @@
+// The lines of the program `desk` that `text` does not have, proved from what they tell. An inner room of that program.
+ghost use mathlib.Core.Path.{_≡_};
+ghost use Rattle.answers.specs.Answers.{worstLine, dayRefused};
+use lines::Line;
+use lines::number;
+use lines::numbers;
+use worst::Worst;
+
+// The words of the lines: the ASCII codes of their letters, the first in the lowest byte.
+const WORST: u64 = 0x7473726f77;
+
+const DAY: u64 = 0x796164;
+
+// `worst MINUTE PROJECTION`, or `worst NUMBER` for a plan that has been read.
+pub fn worst_line(answer: Worst) -> Line
+    ensures { λ l. ⌜ l ≡ worstLine answer ⌝ }
+{
+    match answer {
+        Worst::At(minute, projection) => numbers(WORST, minute as u64, projection as u64),
+        Worst::Refused(n, _) => number(WORST, n),
+    }
+}
+
+// `day NUMBER`: a day that is refused, of a plan that has been read.
+pub fn day_refused(n: u32) -> Line
+    ensures { λ l. ⌜ l ≡ dayRefused n ⌝ }
+{
+    number(DAY, n)
+}

@@ -1,0 +1,146 @@
+-- What is known of a word's bytes tells which verb it is, and which number. Assumes nothing.
+use mathlib.Core.Path.{_≡_, refl, sym, ap, _∙_}
+use mathlib.Core.Bool.{Bool, true, false, _&&_, not}
+use mathlib.Core.List.{List, [], _∷_, _++_}
+use Prim.Native.Nat.{ℕ, _+_, _*_, _-_, _%_, _^_, _≤_, _<_, min}
+use native.Mathlib.Omega.{arith}
+use native.Mathlib.Decide.{decLt}
+use mathlib.Core.Logic.{by-cases}
+use lib.Dec.{eqb, ltb}
+use lib.ListN.{length}
+use borrow.Author.Tests.{lt-ltb, le-ltb, eq-eqb, ne-eqb, eqb-true, ltb-true}
+use Rattle.numbers.specs.Choice.{if_then_else_}
+use Rattle.numbers.specs.Fits.{All, IsByte}
+use Rattle.values.specs.Values.{same, isEmpty, isDigit, isMinus, allDigits, valueFrom, isNegative, unsigned, sizeOf}
+use Rattle.values.specs.Inside.{fresh, withAll}
+use Rattle.values.specs.declared.Seen.{Seen}
+use Rattle.values.proofs.Tests.{both}
+use Rattle.values.proofs.Words.{base, same-word}
+use Rattle.values.proofs.Tells.{Tells, tells-all}
+use Rattle.asks.specs.Asks.{testVerb, worstVerb, dayVerb, isCount, alone, counted, askedOf}
+use Rattle.asks.specs.Inside.{isVerb, countIn, aloneIn, countedIn}
+use Rattle.asks.specs.declared.Asked.{Asked}
+use Rattle.asks.specs.declared.Asked.the-variants.{Test, Worst, Day, Nothing}
+
+-- a word that begins with a minus is not all digits
+no-minus : (g : List ℕ) → (allDigits (unsigned g) && not (isNegative g)) ≡ allDigits g
+unfolding allDigits unsigned isNegative
+no-minus [] = refl
+no-minus (c ∷ g) = go (isMinus c) refl
+  where
+    none : (t : Bool) → (t && false) ≡ false
+    none true = refl
+    none false = refl
+
+    whole : (t : Bool) → (t && true) ≡ t
+    whole true = refl
+    whole false = refl
+
+    go : (m : Bool) → isMinus c ≡ m → (allDigits (if m then g else c ∷ g) && not m) ≡ (isDigit c && allDigits g)
+    go true e = rw (eqb-true c 45 e) (none (allDigits g))
+    go false e = whole (isDigit c && allDigits g)
+
+-- such a word has no minus to leave out
+plain : (g : List ℕ) → allDigits g ≡ true → unsigned g ≡ g
+unfolding allDigits unsigned
+plain [] e = refl
+plain (c ∷ g) e = go (isMinus c) refl
+  where
+    go : (m : Bool) → isMinus c ≡ m → (if m then g else c ∷ g) ≡ c ∷ g
+    go true q = absurd (let z : false ≡ true = rw (eqb-true c 45 q) at e in let y : _≡_ {A = ℕ} 0 1 = cc in omega arith)
+    go false q = refl
+
+module _ (f : List ℕ) (a : All IsByte f) where
+  abbrev known : Seen
+  known = withAll fresh f
+
+  tells : Tells f known
+  tells = tells-all f a
+
+  -- a verb by its length and its letters
+  verb : (v : List ℕ) → All IsByte v → length v ≤ 8 → isVerb (length v) (base v) known ≡ same f v
+  verb v b h = rw (tells .count, tells .word) (same-word f v a b h)
+
+  -- a number by its digits and its size
+  empty : eqb (known .count) 0 ≡ isEmpty f
+  empty = rw (tells .count) (by-cases (decLt 0 (length f))
+      (λ h. rw (ne-eqb (min (length f) 9) 0 (λ e. omega arith), ne-eqb (length f) 0 (λ e. omega arith)))
+      (λ h. let n : length f ≡ 0 = omega arith in rw n))
+
+  digits : (known .digits && not (known .minus)) ≡ allDigits f
+  digits = rw (tells .digits, tells .minus) (no-minus f)
+
+  -- where a word is all digits, it is its own size
+  size : allDigits f ≡ true → sizeOf f ≡ valueFrom 0 f
+  size e = ap (valueFrom 0) (plain f e)
+
+  -- the number that a word is
+  number : (t : Bool) → allDigits f ≡ t → (t && ltb (known .size) 4294967296) ≡ (t && ltb (valueFrom 0 f) (2 ^ 32))
+  number false e = refl
+  number true e =
+      let n = tells .size in
+      let v = size e in
+      by-cases (decLt (known .size) 4294967296)
+      (λ h. let k : known .size ≡ valueFrom 0 f = omega arith in rw k)
+      (λ h. rw (le-ltb (known .size) 4294967296 (omega arith), le-ltb (valueFrom 0 f) (2 ^ 32) (omega arith)))
+
+  pub count : countIn known ≡ isCount f
+  count = rw (empty, digits) (ap (λ (t : Bool). not (isEmpty f) && t) (number (allDigits f) refl))
+
+  pub value : isCount f ≡ true → known .size % 4294967296 ≡ valueFrom 0 f
+  value e =
+      let b = both (allDigits f) (ltb (valueFrom 0 f) (2 ^ 32)) (both (not (isEmpty f)) _ e .1) in
+      let n = tells .size in
+      let v = size (b .0) in
+      let l = ltb-true (valueFrom 0 f) (2 ^ 32) (b .1) in
+      omega arith
+
+  pub alone-known : aloneIn known ≡ alone f
+  unfolding aloneIn alone
+  alone-known = rw (
+    verb testVerb (omega arith, (omega arith, (omega arith, (omega arith, tt)))) (omega arith),
+    verb worstVerb (omega arith, (omega arith, (omega arith, (omega arith, (omega arith, tt))))) (omega arith),
+  )
+
+pub counted-known : (f g : List ℕ) → All IsByte f → All IsByte g → countedIn (withAll fresh f) (withAll fresh g) ≡ counted f g
+unfolding countedIn counted
+counted-known f g a b = rw (verb f a dayVerb (omega arith, (omega arith, (omega arith, tt))) (omega arith), count g b) (go (same f dayVerb && isCount g) refl)
+  where
+    go : (t : Bool) → (same f dayVerb && isCount g) ≡ t
+        → (if t then Day (withAll fresh g .size % 4294967296) else Nothing) ≡ (if t then Day (valueFrom 0 g) else Nothing)
+    go true e = ap Day (value g b (both (same f dayVerb) (isCount g) e .1))
+    go false e = refl
+
+-- the answers, test by test
+pub is-test : (s : Seen) → isVerb 4 0x74657374 s ≡ true → Test ≡ aloneIn s
+unfolding aloneIn
+is-test s e = rw e
+
+pub is-worst : (s : Seen) → isVerb 4 0x74657374 s ≡ false → isVerb 5 0x776f727374 s ≡ true → Worst ≡ aloneIn s
+unfolding aloneIn
+is-worst s d e = rw (d, e)
+
+pub is-none : (s : Seen) → isVerb 4 0x74657374 s ≡ false → isVerb 5 0x776f727374 s ≡ false → Nothing ≡ aloneIn s
+unfolding aloneIn
+is-none s d e = rw (d, e)
+
+pub is-day : (s n : Seen) → (isVerb 3 0x646179 s && countIn n) ≡ true → Day (n .size % 4294967296) ≡ countedIn s n
+unfolding countedIn
+is-day s n e = rw e
+
+pub no-day : (s n : Seen) → (isVerb 3 0x646179 s && countIn n) ≡ false → Nothing ≡ countedIn s n
+unfolding countedIn
+no-day s n e = rw e
+
+-- the words in all
+pub two-words : (n : ℕ) (f g : List ℕ) → n ≡ 2 → alone f ≡ askedOf n f g
+unfolding askedOf
+two-words n f g e = rw e
+
+pub three-words : (n : ℕ) (f g : List ℕ) → n ≡ 3 → counted f g ≡ askedOf n f g
+unfolding askedOf
+three-words n f g e = rw e
+
+pub other-words : (n : ℕ) (f g : List ℕ) → (n ≡ 2 → ⊥) → (n ≡ 3 → ⊥) → Nothing ≡ askedOf n f g
+unfolding askedOf
+other-words n f g d e = rw (ne-eqb n 2 d, ne-eqb n 3 e)

@@ -1,0 +1,42 @@
+-- The words of the program `desk`, behind its name: a verb, and what it is asked. "Words that are numbers are decimal digits,
+-- zeros in front allowed; what does not fit 32 bits is wrong usage." Words are bytes, ASCII codes. Assumes nothing.
+use mathlib.Core.Bool.{Bool, _&&_, not}
+use mathlib.Core.List.{List, [], _∷_}
+use Prim.Native.Nat.{ℕ, _^_}
+use lib.Dec.{eqb, ltb}
+use Rattle.numbers.specs.Choice.{if_then_else_}
+use Rattle.values.specs.Values.{same, isEmpty, allDigits, valueFrom}
+use Rattle.asks.specs.declared.Asked.{Asked}
+use Rattle.asks.specs.declared.Asked.the-variants.{Test, Worst, Day, Nothing}
+
+-- test, worst, day
+abbrev pub testVerb : List ℕ
+testVerb = 116 ∷ 101 ∷ 115 ∷ 116 ∷ []
+
+abbrev pub worstVerb : List ℕ
+worstVerb = 119 ∷ 111 ∷ 114 ∷ 115 ∷ 116 ∷ []
+
+abbrev pub dayVerb : List ℕ
+dayVerb = 100 ∷ 97 ∷ 121 ∷ []
+
+-- decimal digits, at least one, of a number of 32 bits
+abbrev pub isCount : List ℕ → Bool
+isCount f = not (isEmpty f) && (allDigits f && ltb (valueFrom 0 f) (2 ^ 32))
+
+-- a verb alone
+unfoldable pub alone : List ℕ → Asked
+alone f =
+    if same f testVerb then Test
+    else if same f worstVerb then Worst
+    else Nothing
+
+-- a verb and a number
+unfoldable pub counted : List ℕ → List ℕ → Asked
+counted f g = if same f dayVerb && isCount g then Day (valueFrom 0 g) else Nothing
+
+-- n words in all, the program's name the first of them, f and g the next two
+unfoldable pub askedOf : ℕ → List ℕ → List ℕ → Asked
+askedOf n f g =
+    if eqb n 2 then alone f
+    else if eqb n 3 then counted f g
+    else Nothing

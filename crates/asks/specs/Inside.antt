@@ -1,0 +1,24 @@
+-- The same by what is known of a word when its bytes have gone by. A reader of the words can leave this page out. Assumes nothing.
+use mathlib.Core.Bool.{Bool, _&&_, not}
+use Prim.Native.Nat.{ℕ, _%_}
+use lib.Dec.{eqb, ltb}
+use Rattle.numbers.specs.Choice.{if_then_else_}
+use Rattle.values.specs.declared.Seen.{Seen}
+use Rattle.asks.specs.declared.Asked.{Asked}
+use Rattle.asks.specs.declared.Asked.the-variants.{Test, Worst, Day, Nothing}
+
+-- so many letters, as one number to the base 256
+abbrev pub isVerb : ℕ → ℕ → Seen → Bool
+isVerb n w s = eqb (s .count) n && eqb (s .word) w
+
+abbrev pub countIn : Seen → Bool
+countIn s = not (eqb (s .count) 0) && ((s .digits && not (s .minus)) && ltb (s .size) 4294967296)
+
+unfoldable pub aloneIn : Seen → Asked
+aloneIn s =
+    if isVerb 4 0x74657374 s then Test
+    else if isVerb 5 0x776f727374 s then Worst
+    else Nothing
+
+unfoldable pub countedIn : Seen → Seen → Asked
+countedIn s n = if isVerb 3 0x646179 s && countIn n then Day (n .size % 4294967296) else Nothing

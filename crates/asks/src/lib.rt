@@ -1,0 +1,97 @@
+// What the words behind the name of the program `desk` ask: a verb, and for `day` a number. Takes any words. An inner room of that
+// program; specs/Asks states it.
+ghost use mathlib.Core.Path.{_≡_};
+ghost use mathlib.Core.Bool.{_&&_, not};
+ghost use Prim.Native.Nat.{_≤_, _^_};
+ghost use lib.Dec.{eqb, ltb};
+ghost use Rattle.numbers.specs.Fits.{All, IsByte};
+ghost use Rattle.values.specs.Inside.{fresh, with, withAll};
+ghost use Rattle.asks.specs.Asks.{askedOf};
+ghost use Rattle.asks.specs.Inside.{isVerb, countIn, aloneIn, countedIn};
+use values::Seen;
+
+// What is asked; nothing that the desk has a verb for.
+pub enum Asked {
+    Test,
+    Worst,
+    Day(u32),
+    Nothing,
+}
+
+// The verbs, their letters as one number to the base 256, the first letter highest.
+const TEST: u64 = 0x74657374;
+
+const WORST: u64 = 0x776f727374;
+
+const DAY: u64 = 0x646179;
+
+// What is known of a word with a byte more; and a byte is one.
+fn with_byte(s: Seen, c: u8) -> Seen
+    ensures { λ r. ⌜ (r ≡ with s c) × (c ≤ 255) ⌝ }
+{
+    s.with(c)
+}
+
+// What is known of a word's bytes.
+fn seen(word: &[u8]) -> Seen
+    ensures { λ s. ⌜ (s ≡ withAll fresh (now (word .entry))) × All IsByte (now (word .entry)) ⌝ }
+{
+    let mut s = Seen::none();
+    let mut i: usize = 0;
+    while i < word.len() {
+        let c = word[i];
+        s = with_byte(s, c);
+        i += 1;
+    }
+    s
+}
+
+// The word has so many letters, and they are these.
+fn is_verb(s: Seen, letters: u32, verb: u64) -> bool
+    ensures { λ t. ⌜ t ≡ isVerb letters verb s ⌝ }
+{
+    (s.count == letters) & (s.word == verb)
+}
+
+// Decimal digits, at least one, that 32 bits hold.
+fn is_count(s: Seen) -> bool
+    ensures { λ t. ⌜ t ≡ countIn s ⌝ }
+{
+    (s.count != 0) & ((s.digits & !s.minus) & (s.size < 4294967296))
+}
+
+// A verb alone.
+fn alone(s: Seen) -> Asked
+    ensures { λ a. ⌜ a ≡ aloneIn s ⌝ }
+{
+    if is_verb(s, 4, TEST) {
+        return Asked::Test;
+    }
+    if is_verb(s, 5, WORST) {
+        return Asked::Worst;
+    }
+    Asked::Nothing
+}
+
+// A verb and a number.
+fn counted(s: Seen, n: Seen) -> Asked
+    ensures { λ a. ⌜ a ≡ countedIn s n ⌝ }
+{
+    if is_verb(s, 3, DAY) & is_count(n) {
+        return Asked::Day((n.size % 4294967296) as u32);
+    }
+    Asked::Nothing
+}
+
+// What is asked by so many words, the program's name among them, the second and the third of which are these.
+pub fn ask(words: usize, verb: &[u8], word: &[u8]) -> Asked
+    ensures { λ a. ⌜ a ≡ askedOf words (now (verb .entry)) (now (word .entry)) ⌝ }
+{
+    if words == 2 {
+        return alone(seen(verb));
+    }
+    if words == 3 {
+        return counted(seen(verb), seen(word));
+    }
+    Asked::Nothing
+}

@@ -1,0 +1,32 @@
+// One program for the desk: `desk VERB [WORDS]`, standard input to standard output. Each verb is a file here that reads, calls
+// one proved function and prints proved lines; what reads and writes no contract can say. Memory does not grow with the input.
+mod day_verb;
+mod input;
+mod say;
+mod test_verb;
+mod worst_verb;
+
+use asks::Asked;
+
+// What is said of a verb or words that are none.
+const USAGE: [u8; 38] = *b"usage: desk test | worst | day NUMBER\n";
+
+// The words behind the program's name, two at most: a verb, and what it is asked.
+fn asked() -> Asked {
+    let mut verb = io::buffer();
+    let n = os::arg(1, &mut verb);
+    let mut word = io::buffer();
+    let m = os::arg(2, &mut word);
+    asks::ask(os::arg_count(), &verb[..n], &word[..m])
+}
+
+fn main() {
+    match asked() {
+        Asked::Test => test_verb::run(),
+        Asked::Worst => worst_verb::run(),
+        Asked::Day(number) => day_verb::run(number),
+        Asked::Nothing => {
+            io::write_all(libc::STDERR_FILENO, &USAGE);
+        }
+    }
+}

@@ -142,9 +142,10 @@ alone (c ∷ []) s t = (rw (t .count), λ e. rw (t .count, t .minus) (go (isMinu
     go : (u : Bool) → u ≡ isEmpty (if u then [] else c ∷ [])
     go true = refl
     go false = refl
-alone (c ∷ d ∷ f) s t =
-    (rw (ne-eqb (s .count) 0 (λ e. let n = t .count in omega arith), ne-eqb (length (c ∷ d ∷ f)) 0 (λ e. omega arith)),
-    λ e. rw (ne-eqb (s .count) 1 (λ e. let n = t .count in omega arith)) (go (isMinus c)))
+alone (c ∷ d ∷ f) s t = (
+  rw (ne-eqb (s .count) 0 (λ e. let n = t .count in omega arith), ne-eqb (length (c ∷ d ∷ f)) 0 (λ e. omega arith)),
+  λ e. rw (ne-eqb (s .count) 1 (λ e. let n = t .count in omega arith)) (go (isMinus c)),
+)
   where
     go : (u : Bool) → false ≡ isEmpty (if u then d ∷ f else c ∷ d ∷ f)
     go true = sym (ne-eqb (length (d ∷ f)) 0 (λ e. omega arith))
@@ -208,11 +209,12 @@ module _ (f : List ℕ) (s : Seen) (t : Tells f s) (a : All IsByte f) where
   pub says-kind : kindIn s ≡ kindOf f
   unfolding kindIn kindOf
   says-kind =
-      rw
-      (says-word pointWord point-bytes (omega arith),
-      says-word linkWord link-bytes (omega arith),
-      says-word ordinaryWord ordinary-bytes (omega arith),
-      says-word waitWord wait-bytes (omega arith))
+      rw (
+        says-word pointWord point-bytes (omega arith),
+        says-word linkWord link-bytes (omega arith),
+        says-word ordinaryWord ordinary-bytes (omega arith),
+        says-word waitWord wait-bytes (omega arith),
+      )
 
   -- six bytes, or another length
   shaped-case : (u : Bool) → eqb (length f) 6 ≡ u → (eqb (s .count) 6 ≡ u) × (u ≡ true → Six f (s .word))

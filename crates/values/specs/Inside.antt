@@ -74,7 +74,7 @@ unfoldable pub shapedIn : Seen → Bool
 shapedIn s =
     eqb (s .count) 6
     && ((isCapital (byteIn (s .word) 5) && isCapital (byteIn (s .word) 4))
-      && (isDigit (byteIn (s .word) 3) && (isDigit (byteIn (s .word) 2) && (isDigit (byteIn (s .word) 1) && isDigit (byteIn (s .word) 0)))))
+    && (isDigit (byteIn (s .word) 3) && (isDigit (byteIn (s .word) 2) && (isDigit (byteIn (s .word) 1) && isDigit (byteIn (s .word) 0)))))
 
 abbrev pub codeIn : Seen → Bool
 codeIn s = emptyIn s || shapedIn s
@@ -84,5 +84,5 @@ unfoldable pub pondIn : Seen → ℕ
 pondIn s =
     if emptyIn s then 0
     else (26 * (byteIn (s .word) 5 - 65) + (byteIn (s .word) 4 - 65)) * 10000
-      + (10 * (10 * (10 * (byteIn (s .word) 3 - 48) + (byteIn (s .word) 2 - 48)) + (byteIn (s .word) 1 - 48)) + (byteIn (s .word) 0 - 48))
-      + 1
+    + (10 * (10 * (10 * (byteIn (s .word) 3 - 48) + (byteIn (s .word) 2 - 48)) + (byteIn (s .word) 1 - 48)) + (byteIn (s .word) 0 - 48))
+    + 1

@@ -9,6 +9,7 @@ use lib.IntN.{ℤ, pos, negℤ}
 use lib.Signed.{mag, leZ, ltZ}
 use lib.ListN.{length, getD, drop}
 use Rattle.numbers.specs.Choice.{if_then_else_}
+use Rattle.values.specs.Ascii.{ascii}
 
 -- two fields have the same bytes
 unfoldable pub same : List ℕ → List ℕ → Bool
@@ -17,18 +18,17 @@ same [] (d ∷ t) = false
 same (c ∷ s) [] = false
 same (c ∷ s) (d ∷ t) = eqb c d && same s t
 
--- point, link, ordinary, wait
 abbrev pub pointWord : List ℕ
-pointWord = 112 ∷ 111 ∷ 105 ∷ 110 ∷ 116 ∷ []
+pointWord = ascii "point"
 
 abbrev pub linkWord : List ℕ
-linkWord = 108 ∷ 105 ∷ 110 ∷ 107 ∷ []
+linkWord = ascii "link"
 
 abbrev pub ordinaryWord : List ℕ
-ordinaryWord = 111 ∷ 114 ∷ 100 ∷ 105 ∷ 110 ∷ 97 ∷ 114 ∷ 121 ∷ []
+ordinaryWord = ascii "ordinary"
 
 abbrev pub waitWord : List ℕ
-waitWord = 119 ∷ 97 ∷ 105 ∷ 116 ∷ []
+waitWord = ascii "wait"
 
 -- the kind that a word names, as the plan file has it; 0 for a word that names none
 unfoldable pub kindOf : List ℕ → ℕ
@@ -101,7 +101,7 @@ unfoldable pub isShaped : List ℕ → Bool
 isShaped f =
     eqb (length f) 6
     && ((isCapital (getD f 0 0) && isCapital (getD f 1 0))
-      && (isDigit (getD f 2 0) && (isDigit (getD f 3 0) && (isDigit (getD f 4 0) && isDigit (getD f 5 0)))))
+    && (isDigit (getD f 2 0) && (isDigit (getD f 3 0) && (isDigit (getD f 4 0) && isDigit (getD f 5 0)))))
 
 -- (26 × first + second) × 10,000 + digits + 1, with A as 0 and Z as 25
 unfoldable pub shapedCode : List ℕ → ℕ

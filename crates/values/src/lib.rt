@@ -182,8 +182,11 @@ impl Seen {
             return 0;
         }
         let w = self.word;
-        let letters = 26 * letter(w / 256 / 256 / 256 / 256 / 256) + letter(w / 256 / 256 / 256 / 256);
-        let digits = 10 * (10 * (10 * digit(w / 256 / 256 / 256) + digit(w / 256 / 256)) + digit(w / 256)) + digit(w);
+        let letters = 26 * letter(w / 256 / 256 / 256 / 256 / 256)
+            + letter(w / 256 / 256 / 256 / 256);
+        let digits = 10
+            * (10 * (10 * digit(w / 256 / 256 / 256) + digit(w / 256 / 256)) + digit(w / 256))
+            + digit(w);
         letters * 10000 + digits + 1
     }
 }

@@ -1,0 +1,5 @@
+-- The modules of proofs that belong to no one function. Other crates cite the ones that are `pub`.
+mod Lines
+mod Cutting
+mod Rows
+mod Imports

@@ -1,5 +1,7 @@
 -- The modules of proofs that belong to no one function. Other crates cite the ones that are `pub`.
+mod ACase
 mod Lines
 mod Cutting
 mod Rows
 mod Imports
+pub mod Growers

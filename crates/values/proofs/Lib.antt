@@ -3,3 +3,5 @@ pub mod Tests
 pub mod Words
 pub mod Tells
 pub mod Says
+pub mod Codes
+pub mod Fit

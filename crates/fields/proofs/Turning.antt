@@ -10,7 +10,7 @@ use lib.Dec.{eqb}
 use lib.ListN.{length, drop, getD, drop-of-length-le}
 use lib.Seq.{drop-cons}
 use borrow.Author.Tests.{eq-eqb, ne-eqb}
-use Rattle.fields.specs.Quoting.{quote, comma, cr, lf, isBreak, bareAct, quotedAct}
+use Rattle.fields.specs.Quoting.{quote, comma, cr, lf, isBreak, bareAct, quotedAct, closedAct}
 use Rattle.fields.specs.Inside.{endsLine, stepOf, stopped, stoppedAtEnd, onward, fieldFrom}
 use Rattle.values.specs.declared.Seen.{Seen}
 use Rattle.fields.specs.declared.Place.{Place}
@@ -19,6 +19,7 @@ use Rattle.fields.specs.declared.Act.the-variants.{Keep, Break}
 use Rattle.fields.specs.declared.Step.{Step}
 use Rattle.fields.specs.declared.Step.the-variants.{On, Comma, Ends, Broken}
 use Rattle.fields.specs.declared.Field.{Field}
+use Rattle.fields.specs.declared.Field.the-variants.{Unquoted}
 
 module _ (s : List ℕ) (i : ℕ) where
   pub ends-past : length s ≤ i → false ≡ endsLine (drop i s)
@@ -83,3 +84,10 @@ quoted-breaks c n e = rw (ne-eqb c quote n, e)
 
 pub quoted-keeps : (c : ℕ) → (c ≡ quote → ⊥) → isBreak c ≡ false → Keep Quoted ≡ quotedAct c
 quoted-keeps c n e = rw (ne-eqb c quote n, e)
+
+pub closed-keeps : (c : ℕ) → c ≡ quote → Keep Quoted ≡ closedAct c
+closed-keeps c e = rw (eq-eqb c quote e)
+
+-- a quote that the text's end leaves open
+pub open-end : (p : Place) (u : Seen) (i : ℕ) → p ≡ Quoted → Unquoted ≡ stoppedAtEnd p u i
+open-end p u i e = rw e

@@ -11,6 +11,9 @@ use lib.ListN.{length, getD, drop}
 use Rattle.numbers.specs.Choice.{if_then_else_}
 use Rattle.values.specs.Ascii.{ascii}
 
+abbrev pub isEmpty : List ℕ → Bool
+isEmpty f = eqb (length f) 0
+
 -- two fields have the same bytes
 unfoldable pub same : List ℕ → List ℕ → Bool
 same [] [] = true
@@ -41,9 +44,6 @@ kindOf f =
 
 abbrev pub isKind : List ℕ → Bool
 isKind f = not (eqb (kindOf f) 0)
-
-abbrev pub isEmpty : List ℕ → Bool
-isEmpty f = eqb (length f) 0
 
 -- 0 to 9
 abbrev pub isDigit : ℕ → Bool

@@ -14,6 +14,7 @@ use Rattle.fields.specs.Quoting.{cr, lf}
 use Rattle.fields.specs.Inside.{endsLine}
 use Rattle.office.specs.Sheets.{beginsLf, before, pieces, withoutRest, linesOf}
 use Rattle.office.specs.Inside.{firstLine, endFrom}
+use Rattle.office.proofs.ALines.{none-left}
 
 -- a line's end is a CR before an LF
 ends-is : (c : ℕ) (s : List ℕ) → endsLine (c ∷ s) ≡ (eqb c cr && beginsLf s)
@@ -112,9 +113,9 @@ left-of (c ∷ s) = left-on c s (endsLine (c ∷ s)) refl (left-of s)
 
 -- a text that is not empty: its first line, and the lines of what is left
 pub lines-first : (s : List ℕ) → 1 ≤ length s → linesOf s ≡ firstLine s ∷ linesOf (drop (endFrom 0 s) s)
-unfolding withoutRest pieces
+unfolding withoutRest
 lines-first s h = rw (pieces-first s) (go (left-of s))
   where
     go : Left s → withoutRest (firstLine s ∷ tailPieces s) ≡ firstLine s ∷ withoutRest (pieces (drop (endFrom 0 s) s))
-    go (none p q r) = rw (p, q, r, ne-eqb (length s) 0 (λ e. omega arith), drop-length s)
+    go (none p q r) = rw (p, q, r, ne-eqb (length s) 0 (λ e. omega arith), drop-length s, none-left)
     go (more p) = rw (p, pieces-first (drop (endFrom 0 s) s))

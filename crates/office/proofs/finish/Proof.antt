@@ -1,6 +1,6 @@
 -- `office::finish` meets its contract. Assumes nothing.
-use borrow.Author.Tests.{eq-eqb, ne-eqb}
-use Rattle.office.specs.Inside.{finished}
+use Rattle.office.proofs.Finishing.{finish-bad, finish-good}
+use mathlib.Core.Path.{_∙_}
 use native.Mathlib.Omega.{arith}
 use borrow.Author.Needs.{needs}
 use Rattle.office.proofs.finish.Statement.{statement}
@@ -25,14 +25,10 @@ refuse-requires : tie.Need-refuse-requires
 refuse-requires c κs = search needs
 
 returns : tie.Need-returns
-unfolding finished
-returns c = let k = rw (c .before .before .before .before .before .at-most .ensures) at (c .before .before .before .before .check .ensures) in
-    rw (← k, ne-eqb _ _ (c .before .before .if1 .taken)) (c .refuse .ensures)
+returns c = c .refuse .ensures ∙ finish-bad _ _ _ (c .before .before .before .before .before .at-most .ensures) _ (c .before .before .before .before .check .ensures) (c .before .before .if1 .taken)
 
 returns-2 : tie.Need-returns-2
-unfolding finished
-returns-2 c = let k = rw (c .before .before .before .at-most .ensures) at (c .before .before .check .ensures) in
-    rw (← k, eq-eqb _ _ (c .if1 .left), c .before .before .before .at-most .ensures)
+returns-2 c = finish-good _ _ _ (c .before .before .before .at-most .ensures) _ (c .before .before .check .ensures) (c .if1 .left)
 
 pub finish-spec : {M : Type 1} → statement M
 finish-spec =

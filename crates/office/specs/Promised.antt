@@ -11,7 +11,8 @@ use Rattle.plan.specs.APlan.{recordsOf, planOf}
 use Rattle.plan.specs.PlanFile.{fileOf}
 use Rattle.plan.specs.ReplyNumbers.{accepted, checkOf, readOf, writeOf, writtenOf}
 use Rattle.plan.specs.declared.Plan.{Plan}
-use Rattle.office.specs.Sheets.{columns, fieldsOf, linesOf, column, isKind, kindOf, pointOf, numberOf, isCode, codeOf, importOf}
+use Rattle.office.specs.Sheets.{columns, fieldsOf, linesOf, column, importOf}
+use Rattle.office.specs.Sheets.{isKind, kindOf, pointOf, numberOf, isCode, codeOf}
 
 -- line k of a text
 abbrev pub lineOf : ℕ → List ℕ → List ℕ

@@ -1,5 +1,5 @@
-// Sheets from the growers' office: comma-separated text as a plan. Document 02, §1; specs/ states it in that order. `import` goes over
-// the text once, line by line and field by field, and copies none of it; it takes any bytes, of any length, and answers. The
+// Sheets from the growers' office: comma-separated text as a plan. Document 02, §1; specs/ states it in that order. `import` goes
+// over the text once, line by line and field by field, and copies none of it; it takes any bytes, of any length, and answers. The
 // rules for records are those of the file reader, asked of `plan`.
 ghost use mathlib.Core.Path.{_≡_};
 ghost use mathlib.Core.List.{[]};

@@ -28,7 +28,7 @@ pub data Reads (r : Columns) (e : ℕ) (u : Seen) (i : ℕ) (s : List ℕ) : Fie
   end : (v : Seen) (j : ℕ) (g : List ℕ) → v ≡ withAll u g → All IsByte g → r ≡ columns (g ∷ []) → e ≡ j → Reads r e u i s (Last v j)
   wrong : r ≡ broken → Reads r e u i s Unquoted
 
-byte-field : (c : ℕ) (g : List ℕ) (r : Columns) → withByte c (withField g r) ≡ withField (c ∷ g) r
+pub byte-field : (c : ℕ) (g : List ℕ) (r : Columns) → withByte c (withField g r) ≡ withField (c ∷ g) r
 byte-field c g broken = refl
 byte-field c g (columns fs) = refl
 

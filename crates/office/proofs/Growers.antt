@@ -102,7 +102,7 @@ record Goods (rs : List Record) (ls : List (List ℕ)) : Type 0 where
   rows : rowsOf ls ≡ map good records
   answer : importRows rs (rowsOf ls) ≡ readAs (rs ++ records)
 
-append-nil : (rs : List Record) → rs ++ [] ≡ rs
+pub append-nil : (rs : List Record) → rs ++ [] ≡ rs
 append-nil [] = refl
 append-nil (r ∷ rs) = ap (λ (qs : List Record). r ∷ qs) (append-nil rs)
 

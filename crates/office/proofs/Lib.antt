@@ -7,3 +7,4 @@ mod Rows
 mod Imports
 mod Finishing
 pub mod Growers
+pub mod Sayable

@@ -70,6 +70,10 @@ pieces-first (c ∷ d ∷ s) =
     (one-more c (d ∷ s) (endsLine (c ∷ d ∷ s)) refl
     (λ e. let l = behind-lf d s (both (eqb c cr) (eqb d lf) e .1) in rw (l .0, l .1) (sym (pieces-first s))))
 
+-- there is a first piece
+pub pieces-some : (s : List ℕ) → (l : List ℕ) × (ls : List (List ℕ)) × (pieces s ≡ l ∷ ls)
+pieces-some s = (firstLine s, tailPieces s, pieces-first s)
+
 -- what is left behind the first line: nothing, or the text behind its end
 data Left (s : List ℕ) : Type 0 where
   none : tailPieces s ≡ [] → firstLine s ≡ s → endFrom 0 s ≡ length s → Left s

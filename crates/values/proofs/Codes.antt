@@ -9,11 +9,8 @@ use lib.Dec.{eqb, leb}
 use lib.ListN.{length}
 use borrow.Author.Tests.{eqb-true, leb-true, le-leb}
 use Rattle.values.specs.Values.{isEmpty, isDigit, isCapital, valueFrom, isShaped, shapedCode, isCode, codeOf}
+use Rattle.values.specs.Codes.{mostCodes, codeText}
 use Rattle.values.proofs.Tests.{both}
-
--- how many codes there are
-abbrev pub mostCodes : ℕ
-mostCodes = 26 * 26 * 10000
 
 -- a field of the shape, taken apart
 record Shaped (f : List ℕ) : Type 0 where
@@ -130,17 +127,6 @@ code-one f g p q e =
     let ey = past 48 _ _ (s .tens .0) (t .tens .0) (d1 .1) in
     let ez = past 48 _ _ (s .ones .0) (t .ones .0) (d0 .1) in
     s .is ∙ rw (ea, eb, ew, ex, ey, ez) (sym (t .is))
-
--- the code of a number
-abbrev pub codeText : ℕ → List ℕ
-codeText n =
-    (65 + (n - 1) / 10000 / 26)
-    ∷ (65 + (n - 1) / 10000 % 26)
-    ∷ (48 + (n - 1) % 10000 / 10 / 10 / 10)
-    ∷ (48 + (n - 1) % 10000 / 10 / 10 % 10)
-    ∷ (48 + (n - 1) % 10000 / 10 % 10)
-    ∷ (48 + (n - 1) % 10000 % 10)
-    ∷ []
 
 between : (l c h : ℕ) → l ≤ c → c ≤ h → (leb l c && leb c h) ≡ true
 between l c h p q = rw (le-leb l c p, le-leb c h q)

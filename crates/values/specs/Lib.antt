@@ -2,4 +2,5 @@
 -- §1). No proofs are here.
 pub mod Ascii
 pub mod Values
+pub mod Codes
 pub mod Inside

@@ -26,6 +26,7 @@ single-replies =
       links-of = λ p. equal _;
       link-to = λ p q. equal _;
       is-watched = λ p q. equal _;
+      import = λ text. equal _;
       bound-kept = λ x d y. equal _;
       both-in = λ n x y. equal _;
       fresh = equal _;

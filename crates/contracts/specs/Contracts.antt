@@ -14,6 +14,8 @@ use Rattle.numbers.specs.declared.Gap.{Gap}
 use Rattle.plan.specs.declared.Found.{Found}
 use Rattle.plan.specs.declared.Reading.{Reading}
 use Rattle.plan.specs.declared.Refusal.{Refusal}
+use Rattle.office.specs.Sheets.{importOf}
+use Rattle.office.specs.declared.Imported.{Imported}
 use Rattle.bounds.specs.Bounds.{boundKept, bothIn}
 use Rattle.bounds.specs.declared.Bound.{Bound}
 use Rattle.board.specs.Boards.{fresh, minute, sound}
@@ -64,6 +66,8 @@ pub record SingleReplies : Type 0 where
   pub links-of : (p : Plan) → Single (λ (r : ℕ). r ≡ links (recordsOf p))
   pub link-to : (p : Plan) (q : ℕ) → Single (λ (r : Found). r ≡ placeOf (endsAt q) (recordsOf p))
   pub is-watched : (p : Plan) (q : ℕ) → Single (λ (r : Bool). r ≡ watched (recordsOf p) q)
+  -- office
+  pub import : (text : List ℕ) → Single (λ (r : Imported). r ≡ importOf text)
   -- bounds
   pub bound-kept : (x : ℕ) (d : ℤ) (y : ℕ) → Single (λ (r : Bool). r ≡ boundKept x d y)
   pub both-in : (n x y : ℕ) → Single (λ (r : Bool). r ≡ bothIn n x y)

@@ -1,6 +1,6 @@
 -- The walk over a field's bytes, one byte at a time. Assumes nothing.
 use mathlib.Core.Path.{_≡_, refl, sym, ap, _∙_}
-use mathlib.Core.Bool.{Bool, true, false, _&&_}
+use mathlib.Core.Bool.{Bool, true, false, _&&_, _||_}
 use mathlib.Core.Logic.{_⊎_, inl, inr}
 use mathlib.Core.List.{List, [], _∷_}
 use Prim.Native.Nat.{ℕ, suc, _+_, _≤_, _<_}
@@ -10,13 +10,16 @@ use lib.Dec.{eqb}
 use lib.ListN.{length, drop, getD, drop-of-length-le}
 use lib.Seq.{drop-cons}
 use borrow.Author.Tests.{eq-eqb, ne-eqb}
-use Rattle.fields.specs.Quoting.{cr, lf}
+use Rattle.fields.specs.Quoting.{quote, comma, cr, lf, isBreak, bareAct, quotedAct, closedAct}
 use Rattle.fields.specs.Inside.{endsLine, stepOf, stopped, stoppedAtEnd, onward, fieldFrom}
 use Rattle.values.specs.declared.Seen.{Seen}
 use Rattle.fields.specs.declared.Place.{Place}
+use Rattle.fields.specs.declared.Place.the-variants.{Bare, Quoted}
+use Rattle.fields.specs.declared.Act.the-variants.{Keep, Break}
 use Rattle.fields.specs.declared.Step.{Step}
 use Rattle.fields.specs.declared.Step.the-variants.{On, Comma, Ends, Broken}
 use Rattle.fields.specs.declared.Field.{Field}
+use Rattle.fields.specs.declared.Field.the-variants.{Unquoted}
 
 module _ (s : List ℕ) (i : ℕ) where
   pub ends-past : length s ≤ i → false ≡ endsLine (drop i s)
@@ -68,3 +71,23 @@ not-on (inr (inr e)) = omega arith
 pub turn-end : (p : Place) (u : Seen) (s : List ℕ) (i : ℕ) → length s ≤ i → stoppedAtEnd p u i ≡ fieldFrom p u i (drop i s)
 unfolding fieldFrom
 turn-end p u s i h = rw (drop-of-length-le s h)
+
+-- what a byte does outside quotes and inside them, by the tests of the code
+pub bare-breaks : (c : ℕ) → (c ≡ comma → ⊥) → (eqb c quote || isBreak c) ≡ true → Break ≡ bareAct c
+bare-breaks c n e = rw (ne-eqb c comma n, e)
+
+pub bare-keeps : (c : ℕ) → (c ≡ comma → ⊥) → (eqb c quote || isBreak c) ≡ false → Keep Bare ≡ bareAct c
+bare-keeps c n e = rw (ne-eqb c comma n, e)
+
+pub quoted-breaks : (c : ℕ) → (c ≡ quote → ⊥) → isBreak c ≡ true → Break ≡ quotedAct c
+quoted-breaks c n e = rw (ne-eqb c quote n, e)
+
+pub quoted-keeps : (c : ℕ) → (c ≡ quote → ⊥) → isBreak c ≡ false → Keep Quoted ≡ quotedAct c
+quoted-keeps c n e = rw (ne-eqb c quote n, e)
+
+pub closed-keeps : (c : ℕ) → c ≡ quote → Keep Quoted ≡ closedAct c
+closed-keeps c e = rw (eq-eqb c quote e)
+
+-- a quote that the text's end leaves open
+pub open-end : (p : Place) (u : Seen) (i : ℕ) → p ≡ Quoted → Unquoted ≡ stoppedAtEnd p u i
+open-end p u i e = rw e

@@ -37,7 +37,7 @@ or-true : (b : Bool) → (b || true) ≡ true
 or-true true = refl
 or-true false = refl
 
-digits-snoc : (f : List ℕ) (c : ℕ) → allDigits (f ++ (c ∷ [])) ≡ (allDigits f && isDigit c)
+pub digits-snoc : (f : List ℕ) (c : ℕ) → allDigits (f ++ (c ∷ [])) ≡ (allDigits f && isDigit c)
 unfolding allDigits
 digits-snoc [] c = and-true (isDigit c)
 digits-snoc (d ∷ f) c = ap (λ (t : Bool). isDigit d && t) (digits-snoc f c) ∙ assoc (isDigit d) (allDigits f) (isDigit c)
@@ -46,7 +46,7 @@ digits-snoc (d ∷ f) c = ap (λ (t : Bool). isDigit d && t) (digits-snoc f c) �
     assoc true y z = refl
     assoc false y z = refl
 
-value-snoc : (n : ℕ) (f : List ℕ) (c : ℕ) → valueFrom n (f ++ (c ∷ [])) ≡ 10 * valueFrom n f + (c - 48)
+pub value-snoc : (n : ℕ) (f : List ℕ) (c : ℕ) → valueFrom n (f ++ (c ∷ [])) ≡ 10 * valueFrom n f + (c - 48)
 unfolding valueFrom
 value-snoc n [] c = refl
 value-snoc n (d ∷ f) c = value-snoc (10 * n + (d - 48)) f c

@@ -9,6 +9,10 @@ use lib.IntN.{ℤ, pos, negℤ}
 use lib.Signed.{mag, leZ, ltZ}
 use lib.ListN.{length, getD, drop}
 use Rattle.numbers.specs.Choice.{if_then_else_}
+use Rattle.values.specs.Ascii.{ascii}
+
+abbrev pub isEmpty : List ℕ → Bool
+isEmpty f = eqb (length f) 0
 
 -- two fields have the same bytes
 unfoldable pub same : List ℕ → List ℕ → Bool
@@ -17,18 +21,17 @@ same [] (d ∷ t) = false
 same (c ∷ s) [] = false
 same (c ∷ s) (d ∷ t) = eqb c d && same s t
 
--- point, link, ordinary, wait
 abbrev pub pointWord : List ℕ
-pointWord = 112 ∷ 111 ∷ 105 ∷ 110 ∷ 116 ∷ []
+pointWord = ascii "point"
 
 abbrev pub linkWord : List ℕ
-linkWord = 108 ∷ 105 ∷ 110 ∷ 107 ∷ []
+linkWord = ascii "link"
 
 abbrev pub ordinaryWord : List ℕ
-ordinaryWord = 111 ∷ 114 ∷ 100 ∷ 105 ∷ 110 ∷ 97 ∷ 114 ∷ 121 ∷ []
+ordinaryWord = ascii "ordinary"
 
 abbrev pub waitWord : List ℕ
-waitWord = 119 ∷ 97 ∷ 105 ∷ 116 ∷ []
+waitWord = ascii "wait"
 
 -- the kind that a word names, as the plan file has it; 0 for a word that names none
 unfoldable pub kindOf : List ℕ → ℕ
@@ -41,9 +44,6 @@ kindOf f =
 
 abbrev pub isKind : List ℕ → Bool
 isKind f = not (eqb (kindOf f) 0)
-
-abbrev pub isEmpty : List ℕ → Bool
-isEmpty f = eqb (length f) 0
 
 -- 0 to 9
 abbrev pub isDigit : ℕ → Bool

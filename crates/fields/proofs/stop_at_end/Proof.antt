@@ -1,4 +1,5 @@
 -- `fields::stop_at_end` meets its contract. Assumes nothing.
+use Rattle.fields.proofs.Turning.{open-end}
 use native.Mathlib.Omega.{arith}
 use borrow.Author.Needs.{needs}
 use Rattle.fields.proofs.stop_at_end.Statement.{statement}
@@ -23,7 +24,7 @@ returns-2 : tie.Need-returns-2
 returns-2 c = rw (c .enum-told2 .given .1)
 
 returns-3 : tie.Need-returns-3
-returns-3 c = search needs
+returns-3 c = open-end _ _ _ (c .enum-told3 .given .1)
 
 returns-4 : tie.Need-returns-4
 returns-4 c = rw (c .enum-told4 .given .1)

@@ -1,4 +1,5 @@
 -- `values::Seen::code` meets its contract. Assumes nothing.
+use Rattle.values.proofs.Answers.{pond-by}
 use borrow.Author.Tests.{eq-eqb, ne-eqb}
 use Rattle.values.specs.Inside.{pondIn}
 use native.Mathlib.Omega.{arith}
@@ -62,8 +63,7 @@ add-result-2 : tie.Need-add-result-2
 add-result-2 c = search needs
 
 returns-2 : tie.Need-returns-2
-unfolding pondIn
-returns-2 c = rw (ne-eqb _ _ (c .before .before .before .before .before .before .if1 .left), c .digit4 .ensures .0, c .before .digit3 .ensures .0, c .before .before .digit2 .ensures .0, c .before .before .before .digit .ensures .0, c .before .before .before .before .letter2 .ensures .0, c .before .before .before .before .before .letter .ensures .0)
+returns-2 c = pond-by (c .before .before .before .before .before .before .before .before .args .self) _ _ _ _ _ _ (c .before .before .before .before .before .before .if1 .left) (c .before .before .before .before .before .letter .ensures .0) (c .before .before .before .before .letter2 .ensures .0) (c .before .before .before .digit .ensures .0) (c .before .before .digit2 .ensures .0) (c .before .digit3 .ensures .0) (c .digit4 .ensures .0)
 
 pub code-spec : {M : Type 1} → statement M
 code-spec =

@@ -1,5 +1,5 @@
 -- `values::Seen::is_shaped` meets its contract. Assumes nothing.
-use Rattle.values.specs.Inside.{shapedIn}
+use Rattle.values.proofs.Answers.{shaped-by}
 use native.Mathlib.Omega.{arith}
 use borrow.Author.Needs.{needs}
 use Rattle.values.proofs.Seen.is_shaped.Statement.{statement}
@@ -42,8 +42,7 @@ is-digit-requires-4 : tie.Need-is-digit-requires-4
 is-digit-requires-4 c κs = search needs
 
 returns : tie.Need-returns
-unfolding shapedIn
-returns c = rw (c .before .is-digit4 .ensures, c .before .before .is-digit3 .ensures, c .before .before .before .is-digit2 .ensures, c .before .before .before .before .is-digit .ensures, c .before .before .before .before .before .is-capital2 .ensures, c .before .before .before .before .before .before .is-capital .ensures)
+returns c = shaped-by (c .before .before .before .before .before .before .before .args .self) _ _ _ _ _ _ (c .before .before .before .before .before .before .is-capital .ensures) (c .before .before .before .before .before .is-capital2 .ensures) (c .before .before .before .before .is-digit .ensures) (c .before .before .before .is-digit2 .ensures) (c .before .before .is-digit3 .ensures) (c .before .is-digit4 .ensures)
 
 pub is-shaped-spec : {M : Type 1} → statement M
 is-shaped-spec =

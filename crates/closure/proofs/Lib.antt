@@ -6,3 +6,5 @@ pub mod Making
 pub mod Accepting
 pub mod Coding
 pub mod Closes
+pub mod OnePlan
+pub mod Theorems

@@ -209,13 +209,13 @@ module _ (pts : List Record) (are : Every IsPoint pts) (n : ℕ) (f : Table) whe
 
 -- ---- a plan without links and waits
 
+pub or-true : (b : Bool) → (b || true) ≡ true
+or-true true = refl
+or-true false = refl
+
 module _ (rs : List Record) (no : hasSteps rs ≡ false) where
   no-step : {k : Kind} {r : Record} → Has rs k r → isStep r ≡ true → ⊥
   no-step h e = clash (sym (getD-some isStep rs (h .place) (h .listed) (rw (h .here) e)) ∙ no)
-
-  or-true : (b : Bool) → (b || true) ≡ true
-  or-true true = refl
-  or-true false = refl
 
   pub no-link : {A x y C : ℕ} → LinkIn rs A x y C → ⊥
   no-link l = no-step (l .has) (rw (l .has .kind) refl)

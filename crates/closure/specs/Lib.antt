@@ -2,3 +2,4 @@
 -- `Promises`. No proofs are here.
 pub mod Closing
 pub mod Inside
+pub mod Promises

@@ -1,5 +1,5 @@
-// Plans without watched steps: of a plan with no links and no waits, the plan that has an ordinary record for each pair of different
-// points that a path joins, with the shortest distance as bound. Document 02, §12. It takes any plan.
+// Plans without watched steps: of a plan with no links and no waits, the plan that has an ordinary record for each pair of
+// different points that a path joins, with the shortest distance as bound. Document 02, §12. It takes any plan.
 ghost use mathlib.Core.Path.{_≡_};
 ghost use Prim.Native.Nat.{_≤_};
 ghost use Rattle.plan.specs.Limits.{mostRecords};

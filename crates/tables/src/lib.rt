@@ -2,6 +2,7 @@
 // caller is proved to meet. Nothing here knows of plans.
 mod table;
 
+pub use table::BIAS;
 pub use table::FAR;
 pub use table::NONE;
 pub use table::Part;

@@ -1,7 +1,7 @@
 -- The test computed is the test: `testOf` gives the answer that the rules permit, for every plan. Assumes nothing.
 use mathlib.Core.Path.{_≡_, refl, sym, subst, _∙_}
 use mathlib.Core.Logic.{inl, inr}
-use mathlib.Core.Bool.{Bool, true, false, not}
+use mathlib.Core.Bool.{Bool, true, false, not, _&&_}
 use mathlib.Core.List.{List, [], _∷_}
 use Prim.Native.Nat.{ℕ, zero, suc, _+_, _-_, _<_, _≤_}
 use native.Mathlib.Omega.{arith}
@@ -33,13 +33,13 @@ use Rattle.rows.specs.Sheet.{by}
 use Rattle.projection.specs.Pairs.{FirstPair, no-pair, pair as the-pair}
 use Rattle.vee.specs.Walked.{JudgedOf, is-good, has-cycle, has-pair}
 use Rattle.vee.specs.PlanTest.{spans, projections, many, mostProjections, unset, edgesOf, Found, all-good, good, cycle, pair, Tested, refused, too-many, tested}
-use Rattle.vee.specs.TestOf.{Arc, arcs, listed, Rows, entry, rowsOf, atOnce, better, pass, passes, closed, firstFrom, first, among, hasCycle, isWay, misses, pairOf, answerOf, judgeOf, onward, testFrom, testOf}
+use Rattle.vee.specs.TestOf.{Arc, arcs, listed, Rows, entry, rowsOf, offered, atOnce, better, pass, passes, closed, firstFrom, first, among, hasCycle, isWay, misses, pairOf, answerOf, judgeOf, onward, testFrom, testOf}
 use Rattle.tables.proofs.Closing.{near, distances, cycle as cycle-of}
 use Rattle.tables.proofs.Offers.{same-table}
-use Rattle.tables.specs.Steps.{PartOf}
+use Rattle.tables.specs.Steps.{takesOf, PartOf}
 use Rattle.projection.proofs.Judges.{part-cycle, all-consistent, all-edges, rising-edges, good-by, pair-by}
 use Rattle.vee.proofs.Meetings.{Reached, Met, apart, met, Missed, fine, bad}
-use Rattle.projection.proofs.Laws.{same-distances, same-cycle, same-good, same-bad}
+use Rattle.projection.proofs.Laws.{same-distances, same-cycle, same-consistent, same-good, same-bad}
 use Rattle.vee.proofs.Rules.{Valid, both, clash}
 use Rattle.vee.proofs.Plans.{gap-up}
 use Rattle.vee.proofs.Testing.{accepted-plan, nothing-lasts}
@@ -50,7 +50,7 @@ use Rattle.vee.proofs.Arcs.{In, given-in, in-given, Small, drawn}
 use Rattle.vee.proofs.Edges.{to-given, from-given, small-given}
 
 -- what holds of either choice, where the test says so
-by-test : {A : Type 0} (P : A → Type 0) (b : Bool) (x y : A) → (b ≡ true → P x) → (b ≡ false → P y) → P (if b then x else y)
+pub by-test : {A : Type 0} (P : A → Type 0) (b : Bool) (x y : A) → (b ≡ true → P x) → (b ≡ false → P y) → P (if b then x else y)
 by-test P true x y h k = h refl
 by-test P false x y h k = k refl
 
@@ -77,13 +77,13 @@ first-of i (suc k) so = by-test (FirstOf i (suc k) so) (so i) i (firstFrom (suc 
         before j h l = elim (ℕ-discrete j i) [ yes q ↦ rw q e | no q ↦ f .before j (omega arith) l ]
 
 module _ (n : ℕ) (so : ℕ → Bool) where
-  first-so : first n so < n → so (first n so) ≡ true
+  pub first-so : first n so < n → so (first n so) ≡ true
   first-so h = first-of 0 n so .here (omega arith)
 
-  none-before : (j : ℕ) → j < first n so → so j ≡ false
+  pub none-before : (j : ℕ) → j < first n so → so j ≡ false
   none-before j h = first-of 0 n so .before j (omega arith) h
 
-  none-among : among n so ≡ false → (j : ℕ) → j < n → so j ≡ false
+  pub none-among : among n so ≡ false → (j : ℕ) → j < n → so j ≡ false
   none-among e j h = none-before j (omega (arith, ltb-false (first n so) n e))
 
 -- ---- tables as rows
@@ -140,6 +140,39 @@ module _ (n : ℕ) (few : n ≤ side) (f : Table) (small : Within farthest n f) 
       by-test (λ t. Closed n f (not (hasCycle n t)) (entry t)) (ltb (entry t k k) bias) t (passes n (suc k) j (pass n k t))
       (λ b. ended t c (λ h. clash (sym b ∙ none-among n (λ X. ltb (entry t X X) bias) h k (omega arith))))
       (λ b. closes (suc k) j (pass n k t) (omega arith) (subst (λ (m : ℕ). Closing n f m (entry (pass n k t))) (add-one k) (next c (omega arith) (ltb-false (entry t k k) bias b) (passed n k t (omega arith) (near few small c)))))
+
+-- no entry is past none, which says that no walk joins the two points
+module _ (n : ℕ) where
+  abbrev Capped : Rows → Type 0
+  Capped t = (X Y : ℕ) → X < n → Y < n → entry t X Y ≤ none
+
+  offered-least : (b : Bool) (v a : ℕ) → a ≤ none → offered b v a ≤ none
+  offered-least true v a h = omega arith
+  offered-least false v a h = h
+
+  capped-passes : (k j : ℕ) (t : Rows) → Capped t → Capped (passes n k j t)
+  unfolding passes
+  capped-passes k zero t c = c
+  capped-passes k (suc j) t c =
+      by-test Capped (ltb (entry t k k) bias) t (passes n (suc k) j (pass n k t)) (λ e. c) (λ e. capped-passes (suc k) j (pass n k t) once)
+    where
+      once : Capped (pass n k t)
+      once X Y hx hy =
+          rw (entry-rows n (λ X Y. better (entry t X Y) (entry t X k) (entry t k Y)) X Y hx hy)
+          (offered-least (ltb (entry t X k) none && ltb (entry t k Y) none) (entry t X k + entry t k Y - bias) (entry t X Y) (c X Y hx hy))
+
+  capped-at-once : (b : Part) (es : List Arc) (X Y : ℕ) → atOnce b es X Y ≤ none
+  unfolding atOnce
+  capped-at-once b [] X Y = by-test (λ (v : ℕ). v ≤ none) (eqb X Y) bias none (λ e. omega arith) (λ e. omega arith)
+  capped-at-once b (e ∷ es) X Y =
+      offered-least
+      (takesOf b (e .up) (e .down) && (eqb (e .from) X && eqb (e .to) Y))
+      (bias + e .up - e .down)
+      (atOnce b es X Y)
+      (capped-at-once b es X Y)
+
+  capped : (b : Part) (es : List Arc) → Capped (closed n b es)
+  capped b es = capped-passes 0 n (rowsOf n (atOnce b es)) (λ X Y hx hy. rw (entry-rows n (atOnce b es) X Y hx hy) (capped-at-once b es X Y))
 
 -- ---- the first bad pair
 
@@ -271,8 +304,29 @@ module _ (rs : List Record) (v : Valid [] rs) where
     small : Small (points rs) (arcs rs w rs)
     small X Y u d m = small-given rs v w lasts X Y u d (in-given rs w X Y u d m)
 
+    to-plan : (X Y u d : ℕ) → In (arcs rs w rs) X Y u d → edgesOf rs w X Y u d
+    to-plan X Y u d m = from-given rs v w X Y u d (in-given rs w X Y u d m)
+
+    from-plan : (X Y u d : ℕ) → edgesOf rs w X Y u d → In (arcs rs w rs) X Y u d
+    from-plan X Y u d e = given-in rs w X Y u d (to-given rs v w X Y u d e)
+
     judged-plan : (i : ℕ) → JudgedOf (edgesOf rs w) i (judgeOf (points rs) i (arcs rs w rs))
-    judged-plan i = same-judged (λ X Y u d m. from-given rs v w X Y u d (in-given rs w X Y u d m)) (λ X Y u d e. given-in rs w X Y u d (to-given rs v w X Y u d e)) (judged (points rs) (few rs v) (arcs rs w rs) small i)
+    judged-plan i = same-judged to-plan from-plan (judged (points rs) (few rs v) (arcs rs w rs) small i)
+
+    -- The distances computed over the plan's edges are its distances where no cycle sums below zero, and a cycle that is found is
+    -- one of the plan's.
+    pub plan-distances : hasCycle (points rs) (closed (points rs) All (arcs rs w rs)) ≡ false
+        → Distances (edgesOf rs w) (points rs) (entry (closed (points rs) All (arcs rs w rs))) × Consistent (edgesOf rs w)
+    plan-distances e =
+        let c = calm-part (points rs) (few rs v) (arcs rs w rs) small All e in
+        (same-distances to-plan from-plan (all-edges (c .0)), same-consistent to-plan from-plan (all-consistent (c .1)))
+
+    pub plan-cycle : hasCycle (points rs) (closed (points rs) All (arcs rs w rs)) ≡ true → Cycle (edgesOf rs w)
+    plan-cycle e = same-cycle to-plan from-plan (cycle-part (points rs) (few rs v) (arcs rs w rs) small All e)
+
+    -- No entry is past none.
+    pub plan-capped : (X Y : ℕ) → X < points rs → Y < points rs → entry (closed (points rs) All (arcs rs w rs)) X Y ≤ none
+    plan-capped = capped (points rs) All (arcs rs w rs)
 
   found : (i : ℕ) (ws : List (List ℕ)) → Every (λ w. (C : ℕ) → by w C ≤ farthest) ws → Found (edgesOf rs) i ws (testFrom rs i ws)
   unfolding testFrom

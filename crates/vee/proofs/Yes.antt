@@ -43,7 +43,7 @@ module _ {A : Type 0} {P : A → Type 0} where
   rest [] e = e
   rest (x ∷ xs) (also p e) = rest xs e
 
-  join : {xs ys : List A} → Every P xs → Every P ys → Every P (xs ++ ys)
+  pub join : {xs ys : List A} → Every P xs → Every P ys → Every P (xs ++ ys)
   join none f = f
   join (also p e) f = also p (join e f)
 

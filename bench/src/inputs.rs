@@ -200,7 +200,13 @@ mod tests {
 
     #[test]
     fn plans_are_whole_and_pass() {
-        for (points, ordinary, waits) in [(8, 30, 60), (16, 55, 25), (32, 45, 15), (32, 256, 64), (32, 534, 64)] {
+        for (points, ordinary, waits) in [
+            (8, 30, 60),
+            (16, 55, 25),
+            (32, 45, 15),
+            (32, 256, 64),
+            (32, 534, 64),
+        ] {
             let projections = 256;
             let size = Size {
                 points,

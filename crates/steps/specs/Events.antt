@@ -34,6 +34,10 @@ leastOpen rs b = leastOf (isOpen rs b) (low rs b) (from 0 mostPoints)
 abbrev pub firstOpen : List Record → Board → ℕ
 firstOpen rs b = firstOr noPoint (passing (λ (q : ℕ). isOpen rs b q && eqb (low rs b q) (leastOpen rs b)) (from 0 mostPoints))
 
+-- the minute at which the link that ends at C ends, where it is running
+abbrev pub endAt : List Record → Board → List ℕ → ℕ → ℕ
+endAt rs b w C = minute b (linkTo rs C .a) + by w C
+
 -- an event's three numbers
 abbrev pub made : plays.Event → Event
 made e = record { minute = e .minute; point = e .point; set = e .set }
@@ -42,8 +46,7 @@ made e = record { minute = e .minute; point = e .point; set = e .set }
 -- sound for the plan that the sheet has
 pub record EventOf (s : List ℕ) (m n : ℕ) (w : List ℕ) (b : Board) (e : Event) : Type 0 where
   pub of : (p : Plan) → SheetOf p s m → n ≡ points (recordsOf p) → sound (recordsOf p) b ≡ true → b .done < 2 ^ 32
-      → e
-      ≡ made (comesFirst (recordsOf p) b (λ (C : ℕ). minute b (linkTo (recordsOf p) C .a) + by w C) (leastOpen (recordsOf p) b) (firstOpen (recordsOf p) b))
+      → e ≡ made (comesFirst (recordsOf p) b (endAt (recordsOf p) b w) (leastOpen (recordsOf p) b) (firstOpen (recordsOf p) b))
 
 -- a sheet of some plan, durations in bounds, and minutes that are small
 pub record StepReady (s : List ℕ) (m : ℕ) (w minutes : List ℕ) : Type 0 where

@@ -15,7 +15,7 @@ use Rattle.plan.specs.declared.Plan.{Plan}
 use Rattle.records.specs.declared.Record.{Record}
 use Rattle.history.specs.History.{minuteIn, runs}
 use Rattle.lowhigh.specs.Rules.{shuts, earliest, greatest, least, never}
-use Rattle.lowhigh.specs.Inside.{lastMinute}
+use Rattle.lowhigh.specs.Inside.{lastMinute, raised, lowered}
 use Rattle.rows.specs.declared.sheet.Row.{Row}
 use Rattle.rows.specs.Sheet.{by}
 use Rattle.rows.specs.Layout.{LaidOut}
@@ -59,7 +59,15 @@ lowBy x done minutes = lowSaid x (member done (askedIn x)) (getD minutes (askedI
 
 abbrev pub endBy : Row → List ℕ → ℕ → List ℕ → ℕ
 endBy x w done minutes =
-    endSaid (isLink x) (getD w (x .over % mostPoints) 0) (member done (askedIn x)) (getD minutes (askedIn x) 0) (member done (x .over % mostPoints))
+    endSaid (isLink x) (getD w (x .over % mostPoints) 0) (member done (askedIn x)) (getD minutes (askedIn x) 0)
+    (member done (x .over % mostPoints))
+
+-- the tables with it
+abbrev pub lowsWith : Row → ℕ → List ℕ → List ℕ → List ℕ
+lowsWith x done minutes lows = raised lows (placeIn x) (lowBy x done minutes)
+
+abbrev pub endsWith : Row → List ℕ → ℕ → List ℕ → List ℕ → List ℕ
+endsWith x w done minutes ends = lowered ends (x .over) (endBy x w done minutes)
 
 -- the numbers of a row are not too far from 0
 pub record RowReady (x : Row) : Type 0 where

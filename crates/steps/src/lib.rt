@@ -9,9 +9,10 @@ ghost use lib.ListN.{getD};
 ghost use Rattle.plan.specs.Choice.{if_then_else_};
 ghost use Rattle.plan.specs.Limits.{mostPoints, farthest};
 ghost use Rattle.points.specs.Sets.{from};
-ghost use Rattle.lowhigh.specs.Inside.{lastMinute, raised, lowered};
+ghost use Rattle.lowhigh.specs.Inside.{lastMinute};
 ghost use Rattle.promise.specs.Plays.{setOf};
-ghost use Rattle.steps.specs.Rows.{ordinaryLow, waitLow, lowSaid, endSaid, isLink, placeIn, lowBy, endBy, RowReady, PassReady, HeardOf};
+ghost use Rattle.steps.specs.Rows.{ordinaryLow, waitLow, lowSaid, endSaid, lowsWith, endsWith};
+ghost use Rattle.steps.specs.Rows.{RowReady, PassReady, HeardOf};
 ghost use Rattle.steps.specs.Events.{nearer, nearest, standing, endsThen, earlier, StepReady, EventOf};
 use board::Board;
 use board::ROOM;
@@ -139,8 +140,8 @@ fn hear(
     ends: &mut [u32; ROOM],
 )
     requires { ⌜ RowReady row × PassReady (now durations) (now minutes) (now lows) (now ends) ⌝ }
-    ensures lows { λ _. ⌜ now (lows .exit) ≡ raised (now (lows .entry)) (placeIn row) (lowBy row done (now (minutes .entry))) ⌝ }
-    ensures ends { λ _. ⌜ now (ends .exit) ≡ lowered (now (ends .entry)) (row .over) (endBy row (now (durations .entry)) done (now (minutes .entry))) ⌝ }
+    ensures lows { λ _. ⌜ now (lows .exit) ≡ lowsWith row done (now (minutes .entry)) (now (lows .entry)) ⌝ }
+    ensures ends { λ _. ⌜ now (ends .exit) ≡ endsWith row (now (durations .entry)) done (now (minutes .entry)) (now (ends .entry)) ⌝ }
 {
     let link = row.kind == LINK_ROW;
     let at = place(pick(link, row.over, row.from)) as usize;

@@ -68,7 +68,8 @@ pub record RunAsks (s : List ℕ) (m n : ℕ) (w log : List ℕ) : Type 0 where
 pub record RanOf (s : List ℕ) (m n : ℕ) (w log log′ : List ℕ) (r : Ran) : Type 0 where
   pub minute : (p : Plan) → RunReady p s m n w → r .minute ≡ finishing p w
   pub events : (p : Plan) → RunReady p s m n w → r .events ≡ length (eventsOfRun p w)
-  pub written : (p : Plan) → RunReady p s m n w → log′ ≡ bytesOfAll (eventsOfRun p w) ++ drop (recordBytes * length (eventsOfRun p w)) log
+  pub written : (p : Plan) → RunReady p s m n w
+      → log′ ≡ bytesOfAll (eventsOfRun p w) ++ drop (recordBytes * length (eventsOfRun p w)) log
 
 -- ---- a day
 

@@ -68,6 +68,16 @@ worstOf p =
     if not (eqb (refusedOf p .number) 0) then Refused (refusedOf p .number) (refusedOf p .place)
     else At (worstOfAll p .minute) (worstOfAll p .projection)
 
+-- the number of an answer, 0 where nothing is refused, and the values that each case carries: a refusal's record, or the minute and
+-- the projection
+abbrev pub worstNumber : Worst → ℕ
+worstNumber (Refused n i) = n
+worstNumber (At t i) = 0
+
+abbrev pub worstValues : Worst → List ℕ
+worstValues (Refused n i) = i ∷ []
+worstValues (At t i) = t ∷ i ∷ []
+
 -- ---- the day of a projection
 
 -- the events of projection n's run; none for a number past the last

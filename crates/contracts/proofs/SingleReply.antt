@@ -40,6 +40,7 @@ single-replies =
       judge = λ p b list. equal _;
       judge-list = λ p b list count. equal _;
       test = λ p r r′. one-answer;
+      close = λ p. equal _;
       blank = equal _;
       plan-line = λ number place. equal _;
       numbers-line = λ a b c d. equal _;

@@ -30,6 +30,7 @@ use Rattle.lent.specs.Judgement.{judgeOf}
 use Rattle.lent.specs.declared.Judged.{Judged}
 use Rattle.vee.specs.PlanTest.{Tested}
 use Rattle.vee.specs.declared.Answer.{Answer}
+use Rattle.closure.specs.Closing.{closeOf}
 use Rattle.replies.specs.declared.Place.{Place}
 use Rattle.text.specs.Text.{lineOf}
 use Rattle.text.specs.Lines.{planLine, numbersLine, eventLine, replyLine, testLine, boardLine, pointLine, tailLine, endLine}
@@ -80,6 +81,8 @@ pub record SingleReplies : Type 0 where
   pub judge-list : (p : Plan) (b : Board) (list : List Bound) (count : ℕ) → Single (λ (r : Judged). r ≡ judgeOf p b (take count list))
   -- vee
   pub test : (p : Plan) → Single (λ (r : Answer). Tested p r)
+  -- closure
+  pub close : (p : Plan) → Single (λ (r : Reading). r ≡ closeOf p)
   -- text
   pub blank : Single (λ (r : Line). r ≡ lineOf [])
   pub plan-line : (number place : ℕ) → Single (λ (r : Line). r ≡ planLine number place)

@@ -16,7 +16,7 @@ abbrev round : List Record → List Record
 round more = aPoint 0 ∷ record { kind = 1; a = 1; b = 0; first = pos 0; second = pos 0; code = 7 } ∷ aPoint 2 ∷ more
 
 -- from 1 two paths lead to 0, and the shorter is not the record; nothing leads from 0, and nothing to 1
-typed : recordsOf (closeOf (planOf (round (anOrdinary 1 (negsuc 9) 2 ∷ anOrdinary 2 (pos 3) 0 ∷ anOrdinary 1 (pos 5) 0 ∷ []))) .plan) ≡ round (anOrdinary 1 (negsuc 6) 0 ∷ anOrdinary 1 (negsuc 9) 2 ∷ anOrdinary 2 (pos 3) 0 ∷ [])
+pub typed : recordsOf (closeOf (planOf (round (anOrdinary 1 (pos 5) 0 ∷ anOrdinary 1 (negsuc 9) 2 ∷ anOrdinary 2 (pos 3) 0 ∷ []))) .plan) ≡ round (anOrdinary 1 (negsuc 6) 0 ∷ anOrdinary 1 (negsuc 9) 2 ∷ anOrdinary 2 (pos 3) 0 ∷ [])
 unfolding closeOf gathered checkWith firstBadWith lastKind numberForWith some howMany arcs listed atOnce passes firstFrom
 typed = refl
 

@@ -1,4 +1,5 @@
--- Lists that are gathered: their length, the last number's part, and what stands in them. Assumes nothing.
+-- Lists that are gathered: their length, the last number's part, and what stands in them. It names the worked cases, so that they are
+-- checked before what is proved here and above. Assumes nothing.
 use mathlib.Core.Path.{_≡_, refl, sym, ap, subst, _∙_}
 use mathlib.Core.Logic.{_⊎_, inl, inr}
 use mathlib.Core.List.{List, [], _∷_, _++_, append-assoc, append-nil}
@@ -13,6 +14,7 @@ use Rattle.records.specs.declared.Record.{Record}
 use Rattle.vee.specs.PlanTest.{Has}
 use Rattle.vee.proofs.Yes.{Every, none, also, join}
 use Rattle.closure.specs.Closing.{gathered}
+use Rattle.closure.proofs.ARound.{typed}
 
 -- the part of one number more
 pub gathered-more : (i k : ℕ) (f : ℕ → List Record) → gathered i (suc k) f ≡ gathered i k f ++ f (i + k)

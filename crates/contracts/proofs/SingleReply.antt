@@ -43,6 +43,7 @@ single-replies =
       test = λ p r r′. one-answer;
       worst-of = λ p. equal _;
       day-of = λ p projection out. (equal _, equal _);
+      close = λ p. equal _;
       blank = equal _;
       plan-line = λ number place. equal _;
       numbers-line = λ a b c d. equal _;

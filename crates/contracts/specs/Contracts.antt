@@ -35,6 +35,7 @@ use Rattle.vee.specs.declared.Answer.{Answer}
 use Rattle.worst.specs.WorstMinute.{worstOf, dayOf, dayWritten}
 use Rattle.worst.specs.declared.Worst.{Worst}
 use Rattle.worst.specs.declared.Day.{Day}
+use Rattle.closure.specs.Closing.{closeOf}
 use Rattle.replies.specs.declared.Place.{Place}
 use Rattle.lines.specs.Text.{lineOf}
 use Rattle.text.specs.Lines.{planLine, numbersLine, eventLine, replyLine, testLine, boardLine, pointLine, tailLine, endLine}
@@ -91,6 +92,8 @@ pub record SingleReplies : Type 0 where
   pub worst-of : (p : Plan) → Single (λ (r : Worst). r ≡ worstOf p)
   pub day-of : (p : Plan) (projection : ℕ) (out : List ℕ)
       → SingleBoth (λ (r : Day). r ≡ dayOf p projection out) (λ (held : List ℕ). held ≡ dayWritten p projection out)
+  -- closure
+  pub close : (p : Plan) → Single (λ (r : Reading). r ≡ closeOf p)
   -- text
   pub blank : Single (λ (r : Line). r ≡ lineOf [])
   pub plan-line : (number place : ℕ) → Single (λ (r : Line). r ≡ planLine number place)

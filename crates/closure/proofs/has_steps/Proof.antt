@@ -39,7 +39,7 @@ loop-less c = omega arith
 loop-again : tie.Need-loop-again Inv-loop μ-loop
 loop-again c =
     let v = c .before .before .before .before .loop .inv in
-    (v .0, v .1, v .2, looked-more _ _ _ (v .0) (omega arith) (omega arith) (v .3))
+    (v .0, v .1, v .2, looked-more (c .before .before .before .before .before .args .t1) (c .before .before .before .before .loop .found) (c .before .before .before .before .loop .i) (v .0) (omega arith) (omega arith) (v .3))
 
 returns : tie.Need-returns Inv-loop μ-loop
 returns c =

@@ -14,6 +14,12 @@ worstWord = 0x7473726f77
 abbrev pub dayWord : ℕ
 dayWord = 0x796164
 
+abbrev pub importWord : ℕ
+importWord = 0x74726f706d69
+
+abbrev pub closeWord : ℕ
+closeWord = 0x65736f6c63
+
 -- worst MINUTE PROJECTION, worst NUMBER
 abbrev pub worstLine : Worst → Line
 worstLine (At t i) = said (Name worstWord) (Number t ∷ Number i ∷ [])
@@ -22,3 +28,11 @@ worstLine (Refused n i) = said (Name worstWord) (Number n ∷ [])
 -- day NUMBER
 abbrev pub dayRefused : ℕ → Line
 dayRefused n = said (Name dayWord) (Number n ∷ [])
+
+-- import NUMBER LINE, for the reader's own numbers too
+abbrev pub importRefused : ℕ → ℕ → Line
+importRefused n i = said (Name importWord) (Number n ∷ Number i ∷ [])
+
+-- close NUMBER
+abbrev pub closeRefused : ℕ → Line
+closeRefused n = said (Name closeWord) (Number n ∷ [])

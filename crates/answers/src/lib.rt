@@ -1,6 +1,6 @@
 // The lines of the program `desk` that `text` does not have, proved from what they tell. An inner room of that program.
 ghost use mathlib.Core.Path.{_≡_};
-ghost use Rattle.answers.specs.Answers.{worstLine, dayRefused};
+ghost use Rattle.answers.specs.Answers.{worstLine, dayRefused, importRefused, closeRefused};
 use lines::Line;
 use lines::number;
 use lines::numbers;
@@ -10,6 +10,10 @@ use worst::Worst;
 const WORST: u64 = 0x7473726f77;
 
 const DAY: u64 = 0x796164;
+
+const IMPORT: u64 = 0x74726f706d69;
+
+const CLOSE: u64 = 0x65736f6c63;
 
 // `worst MINUTE PROJECTION`, or `worst NUMBER` for a plan that has been read.
 pub fn worst_line(answer: Worst) -> Line
@@ -26,4 +30,18 @@ pub fn day_refused(n: u32) -> Line
     ensures { λ l. ⌜ l ≡ dayRefused n ⌝ }
 {
     number(DAY, n)
+}
+
+// `import NUMBER LINE`: a text that is refused.
+pub fn import_refused(n: u32, line: u64) -> Line
+    ensures { λ l. ⌜ l ≡ importRefused n line ⌝ }
+{
+    numbers(IMPORT, n as u64, line)
+}
+
+// `close NUMBER`: a plan that has been read and is not made.
+pub fn close_refused(n: u32) -> Line
+    ensures { λ l. ⌜ l ≡ closeRefused n ⌝ }
+{
+    number(CLOSE, n)
 }

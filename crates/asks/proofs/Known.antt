@@ -17,10 +17,10 @@ use Rattle.values.specs.declared.Seen.{Seen}
 use Rattle.values.proofs.Tests.{both}
 use Rattle.values.proofs.Words.{base, same-word}
 use Rattle.values.proofs.Tells.{Tells, tells-all}
-use Rattle.asks.specs.Asks.{testVerb, worstVerb, dayVerb, isCount, alone, counted, askedOf}
+use Rattle.asks.specs.Asks.{testVerb, worstVerb, dayVerb, importVerb, closeVerb, isCount, alone, counted, askedOf}
 use Rattle.asks.specs.Inside.{isVerb, countIn, aloneIn, countedIn}
 use Rattle.asks.specs.declared.Asked.{Asked}
-use Rattle.asks.specs.declared.Asked.the-variants.{Test, Worst, Day, Nothing}
+use Rattle.asks.specs.declared.Asked.the-variants.{Test, Worst, Day, Import, Close, Nothing}
 
 -- a word that begins with a minus is not all digits
 no-minus : (g : List ℕ) → (allDigits (unsigned g) && not (isNegative g)) ≡ allDigits g
@@ -97,10 +97,13 @@ module _ (f : List ℕ) (a : All IsByte f) where
 
   pub alone-known : aloneIn known ≡ alone f
   unfolding aloneIn alone
-  alone-known = rw (
-    verb testVerb (omega arith, (omega arith, (omega arith, (omega arith, tt)))) (omega arith),
-    verb worstVerb (omega arith, (omega arith, (omega arith, (omega arith, (omega arith, tt))))) (omega arith),
-  )
+  alone-known =
+      rw (
+        verb testVerb (omega arith, (omega arith, (omega arith, (omega arith, tt)))) (omega arith),
+        verb worstVerb (omega arith, (omega arith, (omega arith, (omega arith, (omega arith, tt))))) (omega arith),
+        verb importVerb (omega arith, (omega arith, (omega arith, (omega arith, (omega arith, (omega arith, tt)))))) (omega arith),
+        verb closeVerb (omega arith, (omega arith, (omega arith, (omega arith, (omega arith, tt))))) (omega arith),
+      )
 
 pub counted-known : (f g : List ℕ) → All IsByte f → All IsByte g → countedIn (withAll fresh f) (withAll fresh g) ≡ counted f g
 unfolding countedIn counted
@@ -120,9 +123,19 @@ pub is-worst : (s : Seen) → isVerb 4 0x74657374 s ≡ false → isVerb 5 0x776
 unfolding aloneIn
 is-worst s d e = rw (d, e)
 
-pub is-none : (s : Seen) → isVerb 4 0x74657374 s ≡ false → isVerb 5 0x776f727374 s ≡ false → Nothing ≡ aloneIn s
-unfolding aloneIn
-is-none s d e = rw (d, e)
+-- neither of those two
+module _ (s : Seen) (t : isVerb 4 0x74657374 s ≡ false) (w : isVerb 5 0x776f727374 s ≡ false) where
+  pub is-import : isVerb 6 0x696d706f7274 s ≡ true → Import ≡ aloneIn s
+  unfolding aloneIn
+  is-import e = rw (t, w, e)
+
+  pub is-close : isVerb 6 0x696d706f7274 s ≡ false → isVerb 5 0x636c6f7365 s ≡ true → Close ≡ aloneIn s
+  unfolding aloneIn
+  is-close d e = rw (t, w, d, e)
+
+  pub is-none : isVerb 6 0x696d706f7274 s ≡ false → isVerb 5 0x636c6f7365 s ≡ false → Nothing ≡ aloneIn s
+  unfolding aloneIn
+  is-none d e = rw (t, w, d, e)
 
 pub is-day : (s n : Seen) → (isVerb 3 0x646179 s && countIn n) ≡ true → Day (n .size % 4294967296) ≡ countedIn s n
 unfolding countedIn

@@ -7,9 +7,9 @@ use lib.Dec.{eqb, ltb}
 use Rattle.numbers.specs.Choice.{if_then_else_}
 use Rattle.values.specs.Values.{same, isEmpty, allDigits, valueFrom}
 use Rattle.asks.specs.declared.Asked.{Asked}
-use Rattle.asks.specs.declared.Asked.the-variants.{Test, Worst, Day, Nothing}
+use Rattle.asks.specs.declared.Asked.the-variants.{Test, Worst, Day, Import, Close, Nothing}
 
--- test, worst, day
+-- test, worst, day, import, close
 abbrev pub testVerb : List ℕ
 testVerb = 116 ∷ 101 ∷ 115 ∷ 116 ∷ []
 
@@ -18,6 +18,12 @@ worstVerb = 119 ∷ 111 ∷ 114 ∷ 115 ∷ 116 ∷ []
 
 abbrev pub dayVerb : List ℕ
 dayVerb = 100 ∷ 97 ∷ 121 ∷ []
+
+abbrev pub importVerb : List ℕ
+importVerb = 105 ∷ 109 ∷ 112 ∷ 111 ∷ 114 ∷ 116 ∷ []
+
+abbrev pub closeVerb : List ℕ
+closeVerb = 99 ∷ 108 ∷ 111 ∷ 115 ∷ 101 ∷ []
 
 -- decimal digits, at least one, of a number of 32 bits
 abbrev pub isCount : List ℕ → Bool
@@ -28,6 +34,8 @@ unfoldable pub alone : List ℕ → Asked
 alone f =
     if same f testVerb then Test
     else if same f worstVerb then Worst
+    else if same f importVerb then Import
+    else if same f closeVerb then Close
     else Nothing
 
 -- a verb and a number

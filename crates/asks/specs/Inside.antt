@@ -5,7 +5,7 @@ use lib.Dec.{eqb, ltb}
 use Rattle.numbers.specs.Choice.{if_then_else_}
 use Rattle.values.specs.declared.Seen.{Seen}
 use Rattle.asks.specs.declared.Asked.{Asked}
-use Rattle.asks.specs.declared.Asked.the-variants.{Test, Worst, Day, Nothing}
+use Rattle.asks.specs.declared.Asked.the-variants.{Test, Worst, Day, Import, Close, Nothing}
 
 -- so many letters, as one number to the base 256
 abbrev pub isVerb : ℕ → ℕ → Seen → Bool
@@ -18,6 +18,8 @@ unfoldable pub aloneIn : Seen → Asked
 aloneIn s =
     if isVerb 4 0x74657374 s then Test
     else if isVerb 5 0x776f727374 s then Worst
+    else if isVerb 6 0x696d706f7274 s then Import
+    else if isVerb 5 0x636c6f7365 s then Close
     else Nothing
 
 unfoldable pub countedIn : Seen → Seen → Asked

@@ -15,6 +15,8 @@ pub enum Asked {
     Test,
     Worst,
     Day(u32),
+    Import,
+    Close,
     Nothing,
 }
 
@@ -24,6 +26,10 @@ const TEST: u64 = 0x74657374;
 const WORST: u64 = 0x776f727374;
 
 const DAY: u64 = 0x646179;
+
+const IMPORT: u64 = 0x696d706f7274;
+
+const CLOSE: u64 = 0x636c6f7365;
 
 // What is known of a word with a byte more; and a byte is one.
 fn with_byte(s: Seen, c: u8) -> Seen
@@ -69,6 +75,12 @@ fn alone(s: Seen) -> Asked
     }
     if is_verb(s, 5, WORST) {
         return Asked::Worst;
+    }
+    if is_verb(s, 6, IMPORT) {
+        return Asked::Import;
+    }
+    if is_verb(s, 5, CLOSE) {
+        return Asked::Close;
     }
     Asked::Nothing
 }

@@ -1,7 +1,10 @@
 // One program for the desk: `desk VERB [WORDS]`, standard input to standard output. Each verb is a file here that reads, calls
 // one proved function and prints proved lines; what reads and writes no contract can say. Memory does not grow with the input.
+mod close_verb;
 mod day_verb;
+mod import_verb;
 mod input;
+mod made;
 mod say;
 mod test_verb;
 mod worst_verb;
@@ -9,7 +12,7 @@ mod worst_verb;
 use asks::Asked;
 
 // What is said of a verb or words that are none.
-const USAGE: [u8; 38] = *b"usage: desk test | worst | day NUMBER\n";
+const USAGE: [u8; 55] = *b"usage: desk test | worst | day NUMBER | import | close\n";
 
 // The words behind the program's name, two at most: a verb, and what it is asked.
 fn asked() -> Asked {
@@ -25,6 +28,8 @@ fn main() {
         Asked::Test => test_verb::run(),
         Asked::Worst => worst_verb::run(),
         Asked::Day(number) => day_verb::run(number),
+        Asked::Import => import_verb::run(),
+        Asked::Close => close_verb::run(),
         Asked::Nothing => {
             io::write_all(libc::STDERR_FILENO, &USAGE);
         }

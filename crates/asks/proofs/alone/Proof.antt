@@ -2,7 +2,7 @@
 use native.Mathlib.Omega.{arith}
 use borrow.Author.Needs.{needs}
 use mathlib.Core.Path.{sym, _∙_}
-use Rattle.asks.proofs.Known.{is-test, is-worst, is-none}
+use Rattle.asks.proofs.Known.{is-test, is-worst, is-import, is-close, is-none}
 use Rattle.asks.proofs.alone.Statement.{statement}
 use Rattle.asks.proofs.alone.Tie as tie
 use Rattle.asks.proofs.alone.Reads as reads
@@ -21,8 +21,26 @@ is-verb-requires-2 c κs = search needs
 returns-2 : tie.Need-returns-2
 returns-2 c = is-worst _ (sym (c .before .before .before .is-verb .ensures) ∙ c .before .before .if1 .left) (sym (c .before .is-verb2 .ensures) ∙ c .if2 .taken)
 
+is-verb-requires-3 : tie.Need-is-verb-requires-3
+is-verb-requires-3 c κs = search needs
+
 returns-3 : tie.Need-returns-3
-returns-3 c = is-none _ (sym (c .before .before .before .is-verb .ensures) ∙ c .before .before .if1 .left) (sym (c .before .is-verb2 .ensures) ∙ c .if2 .left)
+returns-3 c = is-import _ (sym (c .before .before .before .before .before .is-verb .ensures) ∙ c .before .before .before .before .if1 .left) (sym (c .before .before .before .is-verb2 .ensures) ∙ c .before .before .if2 .left) (sym (c .before .is-verb3 .ensures) ∙ c .if3 .taken)
+
+is-verb-requires-4 : tie.Need-is-verb-requires-4
+is-verb-requires-4 c κs = search needs
+
+returns-4 : tie.Need-returns-4
+returns-4 c =
+    is-close _ (sym (c .before .before .before .before .before .before .before .is-verb .ensures) ∙ c .before .before .before .before .before .before .if1 .left) (sym (c .before .before .before .before .before .is-verb2 .ensures) ∙ c .before .before .before .before .if2 .left) (sym (c .before .before .before .is-verb3 .ensures) ∙ c .before .before .if3 .left)
+    (sym (c .before .is-verb4 .ensures) ∙ c .if4 .taken)
+
+returns-5 : tie.Need-returns-5
+returns-5 c =
+    is-none _ (sym (c .before .before .before .before .before .before .before .is-verb .ensures) ∙ c .before .before .before .before .before .before .if1 .left) (sym (c .before .before .before .before .before .is-verb2 .ensures) ∙ c .before .before .before .before .if2 .left) (sym (c .before .before .before .is-verb3 .ensures) ∙ c .before .before .if3 .left)
+    (sym (c .before .is-verb4 .ensures) ∙ c .if4 .left)
 
 pub alone-spec : {M : Type 1} → statement M
-alone-spec = tie.close (tie.spec is-verb-requires returns is-verb-requires-2 returns-2 returns-3)
+alone-spec =
+    tie.close
+    (tie.spec is-verb-requires returns is-verb-requires-2 returns-2 is-verb-requires-3 returns-3 is-verb-requires-4 returns-4 returns-5)

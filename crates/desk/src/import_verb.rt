@@ -1,0 +1,36 @@
+// `desk import`: comma-separated text from the growers' office, and the plan file that it says. A refusal goes to standard error with
+// its line, and nothing is written. A text is held whole, so one that is longer than any sheet is wrong usage.
+use crate::input::read_all;
+use crate::made::write_plan;
+use crate::say::say;
+use libc::STDERR_FILENO;
+use office::import;
+use plan::ACCEPTED;
+use stream::within;
+
+// The longest text.
+const ROOM: usize = 4194304;
+
+const TOO_LONG: [u8; 52] = *b"usage: a text for import has at most 4194304 bytes.\n";
+
+// What the first so many bytes say.
+fn imported(text: &[u8], length: usize) {
+    let n = within(length, text);
+    let answer = import(&text[..n]);
+    if answer.number != ACCEPTED {
+        let line = answers::import_refused(answer.number, answer.line as u64);
+        return say(STDERR_FILENO, line);
+    }
+    write_plan(answer.plan)
+}
+
+pub(crate) fn run() {
+    let mut room = [0u8; ROOM];
+    let text: &mut [u8] = &mut room;
+    let length = read_all(text);
+    if (ROOM as u64) < length {
+        io::write_all(STDERR_FILENO, &TOO_LONG);
+        return;
+    }
+    imported(text, length as usize)
+}

@@ -1,7 +1,6 @@
 -- Worked cases of a line's fields, computed by the checker. Assumes nothing.
 use mathlib.Core.Path.{_≡_, refl}
 use mathlib.Core.List.{List, [], _∷_, map}
-use Prim.Native.Nat.{ℕ}
 use Prim.Native.String.{String}
 use Rattle.values.specs.Ascii.{ascii}
 use Rattle.fields.specs.Quoting.{Columns, broken, columns, fieldsFrom, fieldsOf}

@@ -1,6 +1,6 @@
 -- The walk over a field's bytes, one byte at a time. Assumes nothing.
 use mathlib.Core.Path.{_≡_, refl, sym, ap, _∙_}
-use mathlib.Core.Bool.{Bool, true, false, _&&_, _||_}
+use mathlib.Core.Bool.{true, false, _||_}
 use mathlib.Core.Logic.{_⊎_, inl, inr}
 use mathlib.Core.List.{List, [], _∷_}
 use Prim.Native.Nat.{ℕ, suc, _+_, _≤_, _<_}
@@ -18,7 +18,6 @@ use Rattle.fields.specs.declared.Place.the-variants.{Bare, Quoted}
 use Rattle.fields.specs.declared.Act.the-variants.{Keep, Break}
 use Rattle.fields.specs.declared.Step.{Step}
 use Rattle.fields.specs.declared.Step.the-variants.{On, Comma, Ends, Broken}
-use Rattle.fields.specs.declared.Field.{Field}
 use Rattle.fields.specs.declared.Field.the-variants.{Unquoted}
 
 module _ (s : List ℕ) (i : ℕ) where

@@ -1,6 +1,6 @@
 -- How the functions go over a field's bytes. A reader of the rules can leave this page out: the open functions' contracts do not
 -- cite it. Assumes nothing.
-use mathlib.Core.Bool.{Bool, true, false, _&&_}
+use mathlib.Core.Bool.{Bool, false, _&&_}
 use mathlib.Core.List.{List, [], _∷_}
 use Prim.Native.Nat.{ℕ, suc, _+_}
 use lib.Dec.{eqb}

@@ -2,11 +2,10 @@
 -- importing it answers, 0 and 0 where it is accepted. A wrong row is refused with what the rules answer. Assumes nothing.
 use mathlib.Core.Path.{_≡_, refl}
 use mathlib.Core.Bool.{Bool, true, false, _&&_}
-use mathlib.Core.List.{List, [], _∷_, _++_}
+use mathlib.Core.List.{List, [], _∷_}
 use Prim.Native.Nat.{ℕ}
 use Prim.Native.String.{String}
 use lib.Dec.{eqb}
-use Rattle.numbers.specs.Numbers.{gapOf}
 use Rattle.records.specs.Records.{howMany, some, firstThat}
 use Rattle.plan.specs.ReplyNumbers.{checkOf, firstBad, lastKind, numberFor}
 use Rattle.values.specs.Ascii.{ascii}

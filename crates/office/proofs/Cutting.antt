@@ -1,6 +1,6 @@
 -- The field that the walk finds is the first field of what is left of the line, and the place behind it is where the next one
 -- begins. Assumes nothing.
-use mathlib.Core.Path.{_≡_, refl, sym, ap, _∙_}
+use mathlib.Core.Path.{_≡_, refl, ap, _∙_}
 use mathlib.Core.Bool.{Bool, true, false}
 use mathlib.Core.List.{List, [], _∷_}
 use Prim.Native.Nat.{ℕ, suc, _+_, _≤_, _<_}
@@ -8,7 +8,7 @@ use native.Mathlib.Omega.{arith}
 use lib.ListN.{length, drop, getD}
 use Rattle.numbers.specs.Choice.{if_then_else_}
 use Rattle.numbers.specs.Fits.{All, IsByte}
-use Rattle.values.specs.Inside.{fresh, with, withAll}
+use Rattle.values.specs.Inside.{with, withAll}
 use Rattle.values.specs.declared.Seen.{Seen}
 use Rattle.fields.specs.Quoting.{Columns, broken, columns, withByte, withField, acted, behind, actOf, fieldsFrom}
 use Rattle.fields.specs.Inside.{endsLine, stepOf, actStep, onward, fieldFrom}

@@ -3,13 +3,13 @@
 -- digits, or nothing at all, is ever let through: a date has another shape, so it stops the import. Assumes nothing.
 use mathlib.Core.Path.{_≡_, refl, sym, ap, _∙_}
 use mathlib.Core.Bool.{Bool, true, false, _&&_, not}
-use mathlib.Core.List.{List, [], _∷_, _++_, map}
-use Prim.Native.Nat.{ℕ, zero, suc, _+_, _-_, _^_, _≤_, _<_}
+use mathlib.Core.List.{List, [], _∷_, _++_, map, append-nil}
+use Prim.Native.Nat.{ℕ, zero, suc, _+_, _-_, _≤_, _<_}
 use native.Mathlib.Omega.{arith}
 use lib.Dec.{eqb}
 use lib.ListN.{length, getD, replicate, length-append, length-map, length-replicate}
 use lib.Seq.{append-snoc}
-use borrow.Author.Tests.{eqb-true, not-true, not-false}
+use borrow.Author.Tests.{eqb-true}
 use Rattle.numbers.specs.Choice.{if_then_else_}
 use Rattle.numbers.specs.Fits.{All}
 use Rattle.values.proofs.Tests.{both}
@@ -22,8 +22,6 @@ use Rattle.plan.specs.Limits.{mostRecords}
 use Rattle.plan.specs.APlan.{planOf, recordsOf}
 use Rattle.plan.specs.Held.{HeldPlan}
 use Rattle.plan.specs.ReplyNumbers.{refusal, checkOf}
-use Rattle.plan.specs.declared.Plan.{Plan}
-use Rattle.plan.specs.declared.Refusal.{Refusal}
 use Rattle.plan.proofs.RoundTrip.{records-of-plan, checked-count, names-no-place, reads-as-checked, written-reads-whole}
 use Rattle.office.specs.Sheets.{Columns, broken, columns, fieldsOf, linesOf, Row, bad, good, column, isKind, isPoint, isNumber, isCode, readable, recordOf, rowOf, lineRow, rowsOf, refused, taken, readAs, importRows, importOf}
 use Rattle.office.specs.Promised.{lineOf, Says, Imports, StopsBy}
@@ -101,10 +99,6 @@ record Goods (rs : List Record) (ls : List (List ℕ)) : Type 0 where
   records : List Record
   rows : rowsOf ls ≡ map good records
   answer : importRows rs (rowsOf ls) ≡ readAs (rs ++ records)
-
-pub append-nil : (rs : List Record) → rs ++ [] ≡ rs
-append-nil [] = refl
-append-nil (r ∷ rs) = ap (λ (qs : List Record). r ∷ qs) (append-nil rs)
 
 goods-one : (rs : List Record) (l : List ℕ) (ls : List (List ℕ)) (r : Record) → lineRow l ≡ good r → Goods (rs ++ (r ∷ [])) ls → Goods rs (l ∷ ls)
 unfolding importRows

@@ -2,26 +2,23 @@
 -- gives at a bad line and at the text's end. Assumes nothing.
 use mathlib.Core.Path.{_≡_, refl, sym, ap, _∙_}
 use mathlib.Core.Bool.{Bool, true, false}
-use mathlib.Core.List.{List, [], _∷_, _++_, map}
-use Prim.Native.Nat.{ℕ, suc, _+_, _-_, _%_, _≤_, _<_, min}
+use mathlib.Core.List.{List, [], _∷_, _++_}
+use Prim.Native.Nat.{ℕ, _+_, _-_, _%_, _≤_, _<_, min}
 use native.Mathlib.Omega.{arith}
-use lib.Dec.{eqb, ltb}
+use lib.Dec.{ltb}
 use lib.ListN.{length, set, drop, replicate, length-append, length-drop, drop-of-length-le}
-use lib.Seq.{set-at, append-snoc, drop-drop}
-use borrow.Author.Tests.{eq-eqb, ne-eqb, lt-ltb, le-ltb, ltb-true, ltb-false}
-use Rattle.numbers.specs.Choice.{if_then_else_}
+use lib.Seq.{drop-drop}
+use borrow.Author.Tests.{ne-eqb, lt-ltb, ltb-true, ltb-false}
 use Rattle.records.specs.Records.{blank}
 use Rattle.records.specs.declared.Record.{Record}
 use Rattle.plan.specs.Limits.{mostRecords}
 use Rattle.plan.specs.APlan.{planOf}
 use Rattle.plan.specs.ReplyNumbers.{refusal, checkOf}
 use Rattle.plan.specs.declared.Plan.{Plan}
-use Rattle.plan.specs.declared.Refusal.{Refusal}
-use Rattle.office.specs.Sheets.{Row, bad, good, lineRow, rowsOf, pieces, withoutRest, linesOf, refused, taken, readAs, importRows, importOf}
+use Rattle.office.specs.Sheets.{Row, bad, good, lineRow, rowsOf, pieces, withoutRest, linesOf, refused, readAs, importRows, importOf}
 use Rattle.office.specs.Inside.{firstLine, endFrom, asLine, lineAt, planBy, finished}
-use Rattle.office.specs.declared.Imported.{Imported}
-use Rattle.office.specs.declared.Line.{Line}
 use Rattle.office.specs.declared.Line.the-variants.{Good, Bad}
+use Rattle.office.proofs.Filling.{fill}
 use Rattle.office.proofs.Lines.{end-moves, end-within, lines-first}
 
 -- after the lines before place `at`
@@ -97,9 +94,7 @@ module _ (text : List ℕ) (at lines : ℕ) (records : List Record) (f : Lined t
     store : (r : Record) → lines + 1 ≤ mostRecords → set records (lines % mostRecords) r ≡ (f .done ++ (r ∷ [])) ++ replicate (mostRecords - (lines + 1)) blank
     store r g =
         let m : lines % mostRecords ≡ lines = omega arith in
-        let k : mostRecords - lines ≡ suc (mostRecords - (lines + 1)) = omega arith in
-        rw (m, f .stored (omega arith), k)
-        (set-at (f .done) blank (replicate (mostRecords - (lines + 1)) blank) r lines (sym (f .count)) ∙ sym (append-snoc (f .done) r (replicate (mostRecords - (lines + 1)) blank)))
+        rw m (fill (f .done) lines mostRecords records r blank (f .count) g (f .stored (omega arith)))
 
     pub lined-more : (r : Record) (j : ℕ) → lineAt at s ≡ Good r j → More r j
     unfolding importRows

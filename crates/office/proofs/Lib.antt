@@ -3,6 +3,7 @@ mod ACase
 mod ALines
 mod Lines
 mod Cutting
+mod Filling
 mod Rows
 mod Imports
 mod Finishing

@@ -3,31 +3,29 @@
 use mathlib.Core.Path.{_≡_, refl, sym, ap, _∙_}
 use mathlib.Core.Bool.{Bool, true, false, _&&_, not}
 use mathlib.Core.Logic.{_⊎_, inl, inr}
-use mathlib.Core.List.{List, [], _∷_, _++_, map, map-append, append-assoc}
+use mathlib.Core.List.{List, [], _∷_, _++_, map, map-append}
 use Prim.Native.Nat.{ℕ, suc, _+_, _-_, _%_, _≤_, _<_}
 use native.Mathlib.Omega.{arith}
-use native.Mathlib.Numerals.{add-one}
-use lib.Dec.{eqb}
-use lib.ListN.{length, getD, set, drop, replicate, length-map, length-append, length-drop}
-use lib.Seq.{set-at, append-snoc, drop-drop}
-use borrow.Author.Tests.{eq-eqb, ne-eqb, eqb-true, not-false}
+use lib.ListN.{length, set, drop, replicate, length-map, length-append, length-drop}
+use lib.Seq.{append-snoc, drop-drop}
+use borrow.Author.Tests.{ne-eqb}
 use Rattle.numbers.specs.Choice.{if_then_else_}
 use Rattle.numbers.specs.Fits.{All, IsByte}
 use Rattle.values.specs.Inside.{fresh, withAll}
 use Rattle.values.specs.declared.Seen.{Seen}
 use Rattle.values.proofs.Tests.{both}
-use Rattle.values.proofs.Tells.{Tells, tells-all}
+use Rattle.values.proofs.Tells.{tells-all}
 use Rattle.values.proofs.Says.{says-kind, says-point, says-point-value, says-number, says-value, says-code, says-pond}
-use Rattle.fields.specs.Quoting.{Columns, broken, columns, withField, fieldsFrom, fieldsOf}
+use Rattle.fields.specs.Quoting.{Columns, broken, columns, withField, fieldsOf}
 use Rattle.fields.specs.Inside.{fieldFrom}
 use Rattle.fields.specs.declared.Place.the-variants.{Begin}
 use Rattle.fields.specs.declared.Field.{Field}
 use Rattle.fields.specs.declared.Field.the-variants.{Behind, Last, Unquoted}
 use Rattle.records.proofs.Entries.{all-append, all-drop}
-use Rattle.office.specs.Sheets.{Row, bad, good, readable, recordOf, rowOf, column, isKind, isPoint, isNumber, isCode}
+use Rattle.office.specs.Sheets.{bad, good, readable, recordOf, rowOf, isKind, isPoint, isNumber, isCode}
 use Rattle.office.specs.Inside.{firstLine, endFrom, asLine, lineAt, readableIn, recordIn, lineBy, lastBy}
-use Rattle.office.specs.declared.Line.{Line}
 use Rattle.office.specs.declared.Line.the-variants.{Good, Bad}
+use Rattle.office.proofs.Filling.{fill}
 use Rattle.office.proofs.Cutting.{Reads, comma, end, wrong, reads}
 
 -- what is kept of a field
@@ -133,9 +131,8 @@ store : (fs : List (List ℕ)) (n : ℕ) (cells : List Seen) (g : List ℕ) → 
     → n + 1 ≤ 6 → set cells (n % 6) (seenOf g) ≡ map seenOf (fs ++ (g ∷ [])) ++ replicate (6 - (n + 1)) fresh
 store fs n cells g l e h =
     let m : n % 6 ≡ n = omega arith in
-    let k : 6 - n ≡ suc (6 - (n + 1)) = omega arith in
-    let q : length (map seenOf fs) ≡ n = length-map fs seenOf ∙ sym l in
-    rw (m, e (omega arith), map-append seenOf fs (g ∷ []), k) (set-at (map seenOf fs) fresh (replicate (6 - (n + 1)) fresh) (seenOf g) n q ∙ sym (append-snoc (map seenOf fs) (seenOf g) _))
+    rw (m, map-append seenOf fs (g ∷ []))
+    (fill (map seenOf fs) n 6 cells (seenOf g) fresh (l ∙ sym (length-map fs seenOf)) h (e (omega arith)))
 
 module _ (text : List ℕ) (b : All IsByte text) (at from n : ℕ) (cells : List Seen) (f : Fielded text at from n cells) where
   abbrev here : Field

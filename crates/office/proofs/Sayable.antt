@@ -1,40 +1,38 @@
 -- Nothing that can be meant cannot be said: every accepted plan whose pond codes are of the shape has a text that imports as it.
 -- Assumes nothing.
 use mathlib.Core.Path.{_≡_, refl, sym, ap, _∙_}
-use mathlib.Core.Bool.{Bool, true, false, _&&_, _||_, not}
-use mathlib.Core.List.{List, [], _∷_, _++_, map, append-assoc}
-use Prim.Native.Nat.{ℕ, zero, suc, _+_, _*_, _-_, _/_, _%_, _^_, _≤_, _<_}
+use mathlib.Core.Bool.{Bool, true, false}
+use mathlib.Core.List.{List, [], _∷_, _++_, map, append-nil}
+use Prim.Native.Nat.{ℕ, zero, suc, _+_, _-_, _/_, _%_, _^_, _≤_, _<_}
 use native.Mathlib.Omega.{arith}
-use lib.Dec.{eqb, leb, ltb}
-use lib.IntN.{ℤ, pos, negsuc, negℤ}
+use lib.Dec.{eqb, leb}
+use lib.IntN.{ℤ, pos, negsuc}
 use lib.ListN.{length, getD, length-append}
-use lib.Signed.{mag, leZ, ltZ}
+use lib.Signed.{mag}
 use lib.Seq.{append-snoc}
-use borrow.Author.Tests.{eq-eqb, ne-eqb, lt-ltb, le-leb, leb-true, eqb-true, eqb-false}
+use borrow.Author.Tests.{ne-eqb, lt-ltb, le-leb, leb-true, eqb-true, eqb-false}
 use Rattle.numbers.specs.Choice.{if_then_else_}
-use Rattle.numbers.specs.Fits.{All, IsByte}
-use Rattle.values.specs.Values.{isDigit, isCapital, isMinus, allDigits, valueFrom, isNegative, unsigned, sizeOf, isEmpty, isDecimal, isNumber, numberOf, isPoint, pointOf, isShaped, shapedCode, isCode, codeOf, same, isKind, kindOf}
+use Rattle.numbers.specs.Fits.{All}
+use Rattle.values.specs.Values.{isDigit, isMinus, allDigits, valueFrom, isNegative, unsigned, isNumber, numberOf, isPoint, pointOf, isCode, codeOf, same, isKind, kindOf}
 use Rattle.values.proofs.Tells.{digits-snoc, value-snoc}
-use Rattle.fields.specs.Quoting.{Columns, broken, columns, quote, comma, cr, lf, isBreak, actOf, withField, fieldsFrom, fieldsOf}
-use Rattle.fields.specs.declared.Place.{Place}
-use Rattle.fields.specs.declared.Place.the-variants.{Begin, Bare, Quoted, Closed}
-use Rattle.fields.specs.declared.Act.the-variants.{Keep, Cut}
-use Rattle.office.specs.Sheets.{beginsLf, before, pieces, withoutRest, linesOf, Row, bad, good, readable, recordOf, rowOf, rowsOf, taken, readAs, importRows, importOf}
+use Rattle.fields.specs.Quoting.{columns, quote, comma, cr, lf, actOf, withField, fieldsFrom, fieldsOf}
+use Rattle.fields.specs.declared.Place.the-variants.{Begin, Bare}
+use Rattle.fields.specs.declared.Act.the-variants.{Keep}
+use Rattle.office.specs.Sheets.{beginsLf, before, pieces, withoutRest, linesOf, good, readable, recordOf, rowOf, rowsOf, taken, readAs, importRows, importOf}
 use Rattle.office.specs.Saying.{placesOf, wordText, numberText, pondText, fieldTexts, joined, textOf}
 use Rattle.values.proofs.Tests.{both}
-use Rattle.values.specs.Codes.{mostCodes, codeText}
+use Rattle.values.specs.Codes.{mostCodes}
 use Rattle.values.proofs.Codes.{code-text}
 use Rattle.records.specs.Records as records
 use Rattle.records.specs.Held.{Held}
 use Rattle.records.specs.declared.Record.{Record}
-use Rattle.plan.specs.APlan.{planOf, recordsOf}
+use Rattle.plan.specs.APlan.{planOf}
 use Rattle.plan.specs.ReplyNumbers.{checkOf, isKnown}
 use Rattle.plan.proofs.RoundTrip.{records-of-plan}
 use Rattle.plan.proofs.Accepted.{Accepted, accepted-plan}
 use Rattle.office.proofs.ALines.{none-left}
 use Rattle.office.proofs.Lines.{pieces-some}
 use Rattle.office.proofs.Cutting.{byte-field}
-use Rattle.office.proofs.Growers.{append-nil}
 
 -- ---- bytes that stand for themselves
 

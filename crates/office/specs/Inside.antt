@@ -1,10 +1,10 @@
 -- How the functions behind `import` go over the text: line by line, field by field. A reader of the rules can leave this page out:
 -- the open functions' contracts do not cite it. Assumes nothing.
-use mathlib.Core.Bool.{Bool, true, false, _&&_, not}
+use mathlib.Core.Bool.{Bool, false, _&&_, not}
 use mathlib.Core.List.{List, [], _∷_}
 use Prim.Native.Nat.{ℕ, suc, _+_, _%_, min}
 use lib.Dec.{eqb}
-use lib.ListN.{length, getD, set}
+use lib.ListN.{getD, set}
 use Rattle.numbers.specs.Choice.{if_then_else_}
 use Rattle.records.specs.declared.Record.{Record}
 use Rattle.plan.specs.Limits.{mostRecords}

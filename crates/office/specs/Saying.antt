@@ -1,5 +1,4 @@
 -- A text that says a plan: a line for each record, numbers with all their places, and CR LF behind each line. Assumes nothing.
-use mathlib.Core.Path.{_≡_}
 use mathlib.Core.List.{List, [], _∷_, _++_}
 use Prim.Native.Nat.{ℕ, zero, suc, _+_, _/_, _%_}
 use lib.Dec.{eqb}

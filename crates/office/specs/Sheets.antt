@@ -1,6 +1,6 @@
 -- Document 02, §1: what importing a text answers. A line's fields are those of RFC 4180 (`fields`), and what a field says is handed
 -- on from `values`. Number 0 is no number of the document: it says that nothing is refused. Assumes nothing.
-use mathlib.Core.Bool.{Bool, true, false, _&&_, not}
+use mathlib.Core.Bool.{Bool, false, _&&_, not}
 use mathlib.Core.List.{List, [], _∷_, _++_, map}
 use Prim.Native.Nat.{ℕ}
 use lib.Dec.{eqb}

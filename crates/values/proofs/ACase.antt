@@ -4,7 +4,7 @@ use mathlib.Core.Bool.{Bool, true, false, not}
 use mathlib.Core.List.{List, [], _∷_, map}
 use Prim.Native.Nat.{ℕ}
 use Prim.Native.String.{String}
-use lib.IntN.{ℤ, pos, negsuc}
+use lib.IntN.{pos, negsuc}
 use Rattle.values.specs.Ascii.{ascii}
 use Rattle.values.specs.Values.{same, isKind, kindOf, allDigits, valueFrom, isNegative, unsigned, isPoint, pointOf, isNumber, numberOf, isShaped, shapedCode, isCode, codeOf}
 

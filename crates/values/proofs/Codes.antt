@@ -1,14 +1,14 @@
 -- Pond codes and their numbers, one to one: every code of the shape has a number from 1 to 6,760,000, no two codes have the same,
 -- and each of those numbers is some code's. So none is 0, which says that there is no pond. Assumes nothing.
-use mathlib.Core.Path.{_≡_, refl, sym, ap, _∙_}
-use mathlib.Core.Bool.{Bool, true, false, _&&_, _||_}
+use mathlib.Core.Path.{_≡_, refl, sym, _∙_}
+use mathlib.Core.Bool.{true, _&&_}
 use mathlib.Core.List.{List, [], _∷_}
-use Prim.Native.Nat.{ℕ, suc, _+_, _*_, _-_, _/_, _%_, _^_, _≤_, _<_}
+use Prim.Native.Nat.{ℕ, _+_, _*_, _-_, _/_, _%_, _≤_, _<_}
 use native.Mathlib.Omega.{arith}
 use lib.Dec.{eqb, leb}
 use lib.ListN.{length}
 use borrow.Author.Tests.{eqb-true, leb-true, le-leb}
-use Rattle.values.specs.Values.{isEmpty, isDigit, isCapital, valueFrom, isShaped, shapedCode, isCode, codeOf}
+use Rattle.values.specs.Values.{isDigit, isCapital, valueFrom, isShaped, shapedCode}
 use Rattle.values.specs.Codes.{mostCodes, codeText}
 use Rattle.values.proofs.Tests.{both}
 
@@ -31,7 +31,8 @@ record Shaped (f : List ℕ) : Type 0 where
 within : (l c h : ℕ) → (leb l c && leb c h) ≡ true → (l ≤ c) × (c ≤ h)
 within l c h e = let b = both (leb l c) (leb c h) e in (leb-true l c (b .0), leb-true c h (b .1))
 
-shaped-length : (f : List ℕ) → isShaped f ≡ true → length f ≡ 6
+-- a field of the shape has six bytes
+pub shaped-length : (f : List ℕ) → isShaped f ≡ true → length f ≡ 6
 unfolding isShaped
 shaped-length f e = eqb-true (length f) 6 (both (eqb (length f) 6) _ e .0)
 

@@ -1,23 +1,24 @@
 -- What is answered by what is kept of a field is what the field says. Assumes nothing.
-use mathlib.Core.Path.{_≡_, refl, sym, ap, _∙_}
+use mathlib.Core.Path.{_≡_, refl, sym}
 use mathlib.Core.Bool.{Bool, true, false, _&&_, _||_, not}
 use mathlib.Core.List.{List, [], _∷_}
 use Prim.Native.Nat.{ℕ, zero, suc, _+_, _*_, _-_, _/_, _%_, _^_, _≤_, _<_, min}
 use native.Mathlib.Omega.{arith}
-use lib.Dec.{eqb, leb, ltb}
-use lib.IntN.{ℤ, pos, negsuc, negℤ}
+use lib.Dec.{eqb, ltb}
+use lib.IntN.{ℤ, pos, negℤ}
 use lib.ListN.{length, getD, drop}
 use lib.Signed.{mag, leZ, ltZ}
 use borrow.Author.Tests.{eq-eqb, ne-eqb, eqb-true, eqb-false, lt-ltb, le-ltb, ltb-true, ltb-false, le-leb}
 use Rattle.numbers.specs.Choice.{if_then_else_}
 use Rattle.numbers.specs.Fits.{All, IsByte}
 use Rattle.numbers.specs.Numbers.{signedOf}
-use Rattle.values.specs.Values.{same, pointWord, linkWord, ordinaryWord, waitWord, kindOf, isEmpty, isMinus, isDigit, isCapital, allDigits, valueFrom}
+use Rattle.values.specs.Values.{same, pointWord, linkWord, ordinaryWord, waitWord, kindOf, isEmpty, isMinus, allDigits, valueFrom}
 use Rattle.values.specs.Values.{isNegative, unsigned, sizeOf, isDecimal, numberOf, isNumber, isPoint, pointOf, isShaped, shapedCode, isCode, codeOf}
 use Rattle.values.specs.Inside.{wordIn, kindIn, emptyIn, decimalIn, pointIn, numberIn, valueIn, byteIn, shapedIn, codeIn, pondIn}
 use Rattle.values.specs.declared.Seen.{Seen}
-use Rattle.values.proofs.Tests.{both}
+use Rattle.values.proofs.Tests.{both, and-true, and-false, or-false}
 use Rattle.values.proofs.Words.{base, base-fits, same-word}
+use Rattle.values.proofs.Codes.{shaped-length}
 use Rattle.values.proofs.Tells.{Tells}
 
 -- a number with its sign
@@ -39,18 +40,6 @@ module _ (n v : ℕ) (e : min n (2 ^ 32) ≡ min v (2 ^ 32)) where
       go : (t : Bool) → eqb v k ≡ t → eqb n k ≡ t
       go true q = let l = eqb-true v k q in eq-eqb n k (omega arith)
       go false q = let l = eqb-false v k q in ne-eqb n k (λ x. l (omega arith))
-
-and-false : (b : Bool) → (b && false) ≡ false
-and-false true = refl
-and-false false = refl
-
-and-true : (b : Bool) → (b && true) ≡ b
-and-true true = refl
-and-true false = refl
-
-or-false : (b : Bool) → (b || false) ≡ b
-or-false true = refl
-or-false false = refl
 
 point-sign : (t : Bool) (v : ℕ) → (ltb v 256 && (not t || eqb v 0)) ≡ (leZ (pos 0) (signedBy t v) && ltZ (signedBy t v) (pos 256))
 point-sign false v = rw (le-leb 0 v (omega arith)) (and-true (ltb v 256))
@@ -240,11 +229,6 @@ module _ (f : List ℕ) (s : Seen) (t : Tells f s) (a : All IsByte f) where
   pub says-code : codeIn s ≡ isCode f
   says-code = rw (says-empty, says-shaped)
 
-  -- a field of the shape has six bytes
-  pub shaped-length : isShaped f ≡ true → length f ≡ 6
-  unfolding isShaped
-  shaped-length e = eqb-true (length f) 6 (both (eqb (length f) 6) _ e .0)
-
   pub says-pond : isCode f ≡ true → pondIn s ≡ codeOf f
   unfolding pondIn shapedCode
   says-pond e = go (isEmpty f) refl e
@@ -252,7 +236,7 @@ module _ (f : List ℕ) (s : Seen) (t : Tells f s) (a : All IsByte f) where
       go : (u : Bool) → isEmpty f ≡ u → (u || isShaped f) ≡ true → pondIn s ≡ codeOf f
       go true q r = rw (says-empty, q)
       go false q r =
-          let y = shaped-case true (eq-eqb (length f) 6 (shaped-length r)) .1 refl in
+          let y = shaped-case true (eq-eqb (length f) 6 (shaped-length f r)) .1 refl in
           rw (says-empty, q, y .value, y .b5, y .b4, y .b3, y .b2, y .b1, y .b0)
 
   pub says-point-value : isPoint f ≡ true → s .size % 256 ≡ pointOf f

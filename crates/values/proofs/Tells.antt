@@ -1,17 +1,17 @@
 -- What is kept of a field's bytes tells the field: it does at the start, a byte more keeps it so. Assumes nothing.
 use mathlib.Core.Path.{_≡_, refl, sym, ap, _∙_}
 use mathlib.Core.Bool.{Bool, true, false, _&&_, _||_}
-use mathlib.Core.List.{List, [], _∷_, _++_, append-assoc}
-use Prim.Native.Nat.{ℕ, zero, suc, _+_, _*_, _-_, _%_, _^_, _≤_, _<_, min}
+use mathlib.Core.List.{List, [], _∷_, _++_, append-nil, append-assoc}
+use Prim.Native.Nat.{ℕ, suc, _+_, _*_, _-_, _%_, _^_, _<_, min}
 use native.Mathlib.Omega.{arith}
-use lib.Dec.{eqb}
 use lib.ListN.{length, length-append}
-use borrow.Author.Tests.{eq-eqb, ne-eqb, eqb-true, eqb-false}
+use borrow.Author.Tests.{eq-eqb, ne-eqb, eqb-true}
 use Rattle.numbers.specs.Choice.{if_then_else_}
 use Rattle.numbers.specs.Fits.{All, IsByte}
 use Rattle.values.specs.Values.{isDigit, isMinus, allDigits, valueFrom, isNegative, unsigned, sizeOf}
 use Rattle.values.specs.Inside.{fresh, leads, with, withAll}
 use Rattle.values.specs.declared.Seen.{Seen}
+use Rattle.values.proofs.Tests.{and-true, or-false, or-true}
 use Rattle.values.proofs.Words.{base, base-snoc}
 
 pub record Tells (f : List ℕ) (s : Seen) : Type 0 where
@@ -24,18 +24,6 @@ pub record Tells (f : List ℕ) (s : Seen) : Type 0 where
 pub tells-none : Tells [] fresh
 unfolding isNegative allDigits unsigned valueFrom
 tells-none = record { count = refl; word = refl; minus = refl; digits = refl; size = refl }
-
-and-true : (b : Bool) → (b && true) ≡ b
-and-true true = refl
-and-true false = refl
-
-or-false : (b : Bool) → (b || false) ≡ b
-or-false true = refl
-or-false false = refl
-
-or-true : (b : Bool) → (b || true) ≡ true
-or-true true = refl
-or-true false = refl
 
 pub digits-snoc : (f : List ℕ) (c : ℕ) → allDigits (f ++ (c ∷ [])) ≡ (allDigits f && isDigit c)
 unfolding allDigits
@@ -106,10 +94,6 @@ tells-more (d ∷ f) s c h t =
 tells-on : (f g : List ℕ) (s : Seen) → All IsByte g → Tells f s → Tells (f ++ g) (withAll s g)
 unfolding withAll
 tells-on f [] s a t = rw (append-nil f) t
-  where
-    append-nil : (f : List ℕ) → f ++ [] ≡ f
-    append-nil [] = refl
-    append-nil (c ∷ f) = ap (λ (g : List ℕ). c ∷ g) (append-nil f)
 tells-on f (c ∷ g) s a t = rw append-assoc at (tells-on (f ++ (c ∷ [])) g (with s c) (a .1) (tells-more f s c (a .0) t))
 
 -- all of a field's bytes, one after the other

@@ -1,5 +1,5 @@
--- The modules of proofs that belong to no one function.
+-- The modules of proofs that belong to no one function. `worst` cites `least-never` of `Nearest`.
 mod Saying
 mod Passes
-mod Nearest
+pub mod Nearest
 mod TheEvent

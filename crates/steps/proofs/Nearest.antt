@@ -68,6 +68,16 @@ set-end test left e h = rw e at h
 
 -- ---- what they find
 
+-- The least is not past what is past all.
+pub least-never : (test : ℕ → Bool) (at : ℕ → ℕ) (qs : List ℕ) → leastOf test at qs ≤ never
+unfolding leastOf
+least-never test at [] = omega arith
+least-never test at (q ∷ qs) = go (test q) (least-never test at qs)
+  where
+    go : (c : Bool) → leastOf test at qs ≤ never → (if c then min (at q) (leastOf test at qs) else leastOf test at qs) ≤ never
+    go true h = omega arith
+    go false h = h
+
 -- only the points below the last count
 pub nearest-alike : (f g : ℕ → ℕ) (n p : ℕ) (found : Least) → ((q : ℕ) → q < p + n → f q ≡ g q) → nearestFrom f found (from p n) ≡ nearestFrom g found (from p n)
 unfolding nearestFrom from
@@ -95,15 +105,6 @@ module _ (test : ℕ → Bool) (at : ℕ → ℕ) (soon : (q : ℕ) → test q �
 
   abbrev first : List ℕ → ℕ
   first qs = firstOr noPoint (passing (hits (leastOf test at qs)) qs)
-
-  least-le : (qs : List ℕ) → leastOf test at qs ≤ never
-  unfolding leastOf
-  least-le [] = omega arith
-  least-le (q ∷ qs) = go (test q) (least-le qs)
-    where
-      go : (c : Bool) → leastOf test at qs ≤ never → (if c then min (at q) (leastOf test at qs) else leastOf test at qs) ≤ never
-      go true h = omega arith
-      go false h = h
 
   -- what is found after qs: what was found before, or the first of the least where that is sooner
   abbrev Found : Least → List ℕ → Least → Type 0
@@ -193,7 +194,7 @@ module _ (test : ℕ → Bool) (at : ℕ → ℕ) (soon : (q : ℕ) → test q �
       none′ = record { minute = never; point = noPoint }
 
       minute-is : Found none′ (from 0 mostPoints) (nearestFrom given none′ (from 0 mostPoints)) → nearestFrom given none′ (from 0 mostPoints) .minute ≡ leastOf test at (from 0 mostPoints)
-      minute-is i = omega (arith, i .0, least-le (from 0 mostPoints))
+      minute-is i = omega (arith, i .0, least-never test at (from 0 mostPoints))
 
       point-is : Found none′ (from 0 mostPoints) (nearestFrom given none′ (from 0 mostPoints)) → (c : Bool) → ltb (leastOf test at (from 0 mostPoints)) never ≡ c
           → nearestFrom given none′ (from 0 mostPoints) .point ≡ first (from 0 mostPoints)

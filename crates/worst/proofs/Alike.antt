@@ -16,18 +16,9 @@ use Rattle.board.specs.Events.{noPoint, endsRunning}
 use Rattle.board.specs.declared.Board.{Board}
 use Rattle.board.proofs.Theorems.Each.{clash}
 use Rattle.promise.specs.Plays.{Event, leastOf, setOf, firstEnd, endingAt, comesFirst}
+pub use Rattle.steps.proofs.Nearest.{least-never}
 
 -- ---- the least
-
--- The least is not past what is past all.
-pub least-never : (test : ℕ → Bool) (at : ℕ → ℕ) (qs : List ℕ) → leastOf test at qs ≤ never
-unfolding leastOf
-least-never test at [] = omega arith
-least-never test at (q ∷ qs) = go (test q) (least-never test at qs)
-  where
-    go : (c : Bool) → leastOf test at qs ≤ never → (if c then min (at q) (leastOf test at qs) else leastOf test at qs) ≤ never
-    go true h = omega arith
-    go false h = h
 
 -- Where no point passes there is none.
 pub least-none : (test : ℕ → Bool) (at : ℕ → ℕ) (n p : ℕ) → ((q : ℕ) → q < p + n → test q ≡ false)

@@ -1,31 +1,26 @@
 -- The made records are accepted after the plan's points: each is known, in order, within the limit, between points that are there,
 -- of a pair that no earlier one has, and within its bounds. Assumes nothing.
-use mathlib.Core.Path.{_≡_, refl, sym, ap, _∙_}
+use mathlib.Core.Path.{_≡_, refl, ap, _∙_}
 use mathlib.Core.Logic.{_⊎_, inl, inr}
-use mathlib.Core.Bool.{Bool, true, false, not, _&&_, _||_}
+use mathlib.Core.Bool.{Bool, true, false, _&&_, _||_}
 use mathlib.Core.List.{List, [], _∷_, _++_, map, append-assoc, append-nil}
 use Prim.Native.Nat.{ℕ, zero, suc, _+_, _-_, _*_, _<_, _≤_}
 use native.Mathlib.Omega.{arith}
-use native.Mathlib.Numerals.{add-one}
-use native.Mathlib.Decide.{ℕ-discrete, decLt}
-use lib.Dec.{eqb, ltb, leb, eqb·suc-zero}
-use lib.IntN.{ℤ, pos, negsuc, negℤ, subℕ}
+use lib.Dec.{eqb, ltb, eqb·suc-zero}
+use lib.IntN.{pos, negℤ, subℕ}
 use lib.Signed.{leZ}
-use lib.ListN.{length, getD, take, drop, length-append, take-append-drop}
+use lib.ListN.{length}
 use lib.Seq.{append-snoc}
-use borrow.Author.Tests.{eqb-true, ltb-true, ltb-false, lt-ltb, le-leb, ne-eqb, eq-eqb}
-use Rattle.plan.specs.Choice.{if_then_else_}
-use Rattle.plan.specs.Limits.{mostPoints, mostOrdinary, mostRecords, farthest}
-use Rattle.plan.specs.APlan.{Kind, point, ordinary, is, one, some, howMany, points, leads, fromTo, blank}
+use borrow.Author.Tests.{ltb-true, ltb-false, lt-ltb, le-leb, ne-eqb}
+use Rattle.plan.specs.Limits.{mostPoints, mostOrdinary, farthest}
+use Rattle.plan.specs.APlan.{point, ordinary, is, howMany, points, leads, fromTo}
 use Rattle.plan.specs.Haul.{anOrdinary}
-use Rattle.plan.specs.ReplyNumbers.{accepted, lastKind, numberOf, numberForWith, after, firstBad, firstBadWith}
-use Rattle.plan.specs.PlanFile.{Entry}
+use Rattle.plan.specs.ReplyNumbers.{lastKind, numberOf, numberForWith, after, firstBad, firstBadWith}
 use Rattle.plan.specs.Held.{plain}
 use Rattle.plan.proofs.Records.{many-snoc, some-snoc, last-snoc}
 use Rattle.records.specs.declared.Record.{Record}
-use Rattle.plan.specs.declared.Refusal.{Refusal}
 use Rattle.tables.specs.Tables.{Table, bias, none}
-use Rattle.vee.proofs.Rules.{both, clash}
+use Rattle.vee.proofs.Rules.{clash}
 use Rattle.vee.proofs.Yes.{Every, also}
 use Rattle.vee.proofs.Yes.Every.{none as no-more}
 use Rattle.closure.specs.Closing.{recordOf, gathered, rowOf, recordsBy, tooFar}

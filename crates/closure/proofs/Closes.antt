@@ -5,24 +5,20 @@ use mathlib.Core.List.{List, [], _++_}
 use Prim.Native.Nat.{ℕ, _+_, _<_, _≤_}
 use native.Mathlib.Omega.{arith}
 use native.Mathlib.Decide.{decLt}
-use lib.Dec.{eqb}
 use lib.ListN.{length, length-replicate, length-take, take}
 use borrow.Author.Tests.{ne-eqb, not-true, not-false}
-use Rattle.plan.specs.Choice.{if_then_else_}
 use Rattle.plan.specs.Limits.{mostPoints, mostRecords}
 use Rattle.plan.specs.APlan.{points, recordsOf, planOf}
-use Rattle.plan.specs.ReplyNumbers.{refusal, refused, taken, checkOf}
-use Rattle.plan.proofs.RoundTrip.{names-no-place}
+use Rattle.plan.specs.ReplyNumbers.{refusal, refused, checkOf}
 use Rattle.records.specs.declared.Record.{Record}
 use Rattle.plan.specs.declared.Plan.{Plan}
 use Rattle.plan.specs.declared.Reading.{Reading}
 use Rattle.plan.specs.declared.Refusal.{Refusal}
-use Rattle.network.specs.Passing.{Cycle, Consistent}
+use Rattle.network.specs.Passing.{Consistent}
 use Rattle.network.proofs.Laws.{not-both}
 use Rattle.tables.specs.declared.table.Part.the-variants.{All}
-use Rattle.tables.specs.Tables.{Table, bias, none, side}
-use Rattle.tables.specs.Entries.{wide, raw, at, nowhere}
-use Rattle.tables.specs.Distances.{Distances}
+use Rattle.tables.specs.Tables.{Table, none, side}
+use Rattle.tables.specs.Entries.{raw, at, nowhere}
 use Rattle.tables.proofs.Widths.{wide-in, wide-out}
 use Rattle.rows.specs.Sheet.{SheetReady}
 use Rattle.rows.specs.Filled.{Filled}
@@ -30,18 +26,18 @@ use Rattle.rows.specs.Layout.{LaidOut}
 use Rattle.projection.proofs.Laws.{same-distances, same-cycle, same-consistent}
 use Rattle.projection.proofs.Judges.{part-cycle, all-consistent, all-edges}
 use Rattle.vee.specs.PlanTest.{unset, edgesOf}
-use Rattle.vee.specs.TestOf.{entry, first, among, hasCycle}
+use Rattle.vee.specs.TestOf.{entry, among, hasCycle}
 use Rattle.vee.proofs.Rules.{Valid, clash}
 use Rattle.vee.proofs.Sheets.{sheet-ready, to-sheet, from-sheet}
 use Rattle.vee.proofs.Testing.{accepted-plan, nothing-lasts}
 use Rattle.vee.proofs.Yes.{few}
 use Rattle.vee.proofs.Executable.{plan-distances, plan-cycle, plan-capped, none-among}
-use Rattle.closure.specs.Closing.{hasSteps, distancesOf, recordOf, gathered, rowOf, recordsBy, pointsIn, madeOf, tooFar, someTooFar, closeOf}
+use Rattle.closure.specs.Closing.{hasSteps, distancesOf, recordOf, rowOf, recordsBy, madeOf, tooFar, someTooFar, closeOf}
 use Rattle.closure.specs.Inside.{PointsReady}
 use Rattle.closure.proofs.Gathering.{gathered-same}
 use Rattle.closure.proofs.Networks.{same-entry}
 use Rattle.closure.proofs.Making.{points-listed}
-use Rattle.closure.proofs.Coding.{one-among, not-among}
+use Rattle.closure.proofs.Coding.{not-among}
 
 -- ---- tables that agree
 

@@ -3,7 +3,7 @@
 use mathlib.Core.Path.{_≡_, refl, sym, ap, _∙_}
 use mathlib.Core.Bool.{Bool, true, false, not, _&&_, _||_}
 use mathlib.Core.List.{List, [], _∷_, _++_, append-assoc, append-nil}
-use Prim.Native.Nat.{ℕ, zero, suc, _+_, _-_, _*_, _<_, _≤_}
+use Prim.Native.Nat.{ℕ, suc, _+_, _-_, _*_, _<_, _≤_}
 use native.Mathlib.Omega.{arith}
 use native.Mathlib.Numerals.{add-one}
 use native.Mathlib.Decide.{decLt}
@@ -11,7 +11,7 @@ use lib.Dec.{eqb, ltb}
 use lib.IntN.{subℕ}
 use lib.ListN.{length, getD, set, take, replicate, length-append, length-take}
 use lib.Seq.{set-at, append-snoc, take-suc, take-all, getD-take, length-take-le}
-use borrow.Author.Tests.{ltb-true, ltb-false, lt-ltb, le-ltb, ne-eqb}
+use borrow.Author.Tests.{ltb-true, lt-ltb, le-ltb}
 use Rattle.plan.specs.Choice.{if_then_else_}
 use Rattle.plan.specs.Limits.{mostRecords, farthest}
 use Rattle.plan.specs.APlan.{one, some, blank, recordsOf, planOf}
@@ -29,8 +29,8 @@ use Rattle.vee.proofs.Executable.{first-so, none-among}
 use Rattle.vee.proofs.Rules.{both, clash}
 use Rattle.closure.specs.Closing.{isStep, hasSteps, recordOf, gathered, rowOf, recordsBy, tooFar}
 use Rattle.closure.specs.Inside.{RowReady, RowsReady, PointsReady}
-use Rattle.closure.proofs.Gathering.{gathered-more, gathered-few}
-use Rattle.closure.proofs.Making.{pairs, record-few, row-few}
+use Rattle.closure.proofs.Gathering.{gathered-more}
+use Rattle.closure.proofs.Making.{pairs, row-few}
 
 -- ---- the numbers of a table
 

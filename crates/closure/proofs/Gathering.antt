@@ -2,7 +2,7 @@
 -- checked before what is proved here and above. Assumes nothing.
 use mathlib.Core.Path.{_≡_, refl, sym, ap, subst, _∙_}
 use mathlib.Core.Logic.{_⊎_, inl, inr}
-use mathlib.Core.List.{List, [], _∷_, _++_, append-assoc, append-nil}
+use mathlib.Core.List.{List, [], _++_, append-assoc, append-nil}
 use Prim.Native.Nat.{ℕ, zero, suc, _+_, _-_, _*_, _<_, _≤_}
 use native.Mathlib.Omega.{arith}
 use native.Mathlib.Nat.{mul-suc}
@@ -12,7 +12,7 @@ use lib.Seq.{getD-append-add}
 use Rattle.plan.specs.APlan.{Kind, blank}
 use Rattle.records.specs.declared.Record.{Record}
 use Rattle.vee.specs.PlanTest.{Has}
-use Rattle.vee.proofs.Yes.{Every, none, also, join}
+use Rattle.vee.proofs.Yes.{Every, none, join}
 use Rattle.closure.specs.Closing.{gathered}
 use Rattle.closure.proofs.ARound.{typed}
 

@@ -2,18 +2,17 @@
 -- nothing.
 use mathlib.Core.Path.{_≡_, refl, sym, ap, subst, _∙_}
 use mathlib.Core.Logic.{_⊎_, inl, inr}
-use mathlib.Core.Bool.{Bool, true, false, not, cond, _&&_, _||_}
+use mathlib.Core.Bool.{Bool, true, false, not, _&&_, _||_}
 use mathlib.Core.List.{List, [], _∷_, _++_}
-use Prim.Native.Nat.{ℕ, zero, suc, _+_, _-_, _*_, _<_, _≤_}
+use Prim.Native.Nat.{ℕ, zero, suc, _+_, _-_, _<_, _≤_}
 use native.Mathlib.Omega.{arith}
 use native.Mathlib.Decide.{ℕ-discrete}
 use lib.Dec.{eqb, ltb}
 use lib.IntN.{subℕ}
-use lib.ListN.{length, getD, take, length-append}
+use lib.ListN.{length, getD}
 use lib.Seq.{length-take-le, take-at}
-use borrow.Author.Tests.{eqb-true, eqb-false, ltb-true, ltb-false, lt-ltb, ne-eqb, not-true, eq-eqb}
-use Rattle.plan.specs.Choice.{if_then_else_}
-use Rattle.plan.specs.APlan.{Kind, point, link, ordinary, wait, is, one, some, howMany, points, blank, gapOf}
+use borrow.Author.Tests.{eqb-true, eqb-false, ltb-true, ltb-false, lt-ltb, ne-eqb, not-true}
+use Rattle.plan.specs.APlan.{Kind, point, link, ordinary, is, some, howMany, points, blank, gapOf}
 use Rattle.plan.specs.Haul.{anOrdinary}
 use Rattle.plan.proofs.Accepted.{getD-some}
 use Rattle.records.specs.declared.Record.{Record}
@@ -26,7 +25,7 @@ use Rattle.vee.proofs.Plans.{Whole, w-point, w-link, w-ordinary, w-wait, whole,
 use Rattle.vee.proofs.Orders.{Up, up-none, up-more, ups, past-points}
 use Rattle.vee.proofs.Yes.{Every, also}
 use Rattle.vee.proofs.Yes.Every.{none as no-more}
-use Rattle.closure.specs.Closing.{isStep, hasSteps, recordOf, gathered, rowOf, recordsBy, pointsIn}
+use Rattle.closure.specs.Closing.{isStep, hasSteps, recordOf, rowOf, recordsBy, pointsIn}
 use Rattle.closure.proofs.Gathering.{gathered-every, gathered-few, has-rest, has-either, no-has, to-gathered, of-gathered}
 use Rattle.closure.proofs.Networks.{Made}
 

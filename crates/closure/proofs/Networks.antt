@@ -5,11 +5,11 @@ use mathlib.Core.Path.{_≡_, refl, sym, subst}
 use Prim.Native.Nat.{ℕ, _+_, _-_, _<_, _≤_}
 use native.Mathlib.Omega.{arith}
 use native.Mathlib.Decide.{ℕ-discrete, decLt}
-use Rattle.network.specs.Walks.{Walk, nil, step, Negative, NonNegative, Vee, vee}
-use Rattle.network.specs.Passing.{Joined, Consistent, Shortest, Fine, Good}
+use Rattle.network.specs.Walks.{Walk, nil, step, vee}
+use Rattle.network.specs.Passing.{Consistent, Shortest, Fine, Good}
 use Rattle.network.proofs.Laws.{append}
 use Rattle.tables.specs.Tables.{Table, bias, none}
-use Rattle.tables.specs.Distances.{Attained, Inside, Distances}
+use Rattle.tables.specs.Distances.{Inside, Distances}
 use Rattle.projection.proofs.Laws.{ends, fine-outside}
 
 -- Two tables of the same distances agree, where neither has an entry past none.

@@ -1,24 +1,20 @@
 -- A plan without links and waits: its edges are its ordinary records, whatever the durations; it has one projection; and the
 -- verdict on it goes by those records. Assumes nothing.
 use mathlib.Core.Path.{_≡_, refl, sym, ap, _∙_}
-use mathlib.Core.Bool.{Bool, true, false, not, _&&_, _||_}
+use mathlib.Core.Bool.{Bool, true, false, _||_}
 use mathlib.Core.List.{List, [], _∷_}
-use Prim.Native.Nat.{ℕ, zero, suc, _+_, _<_, _≤_}
+use Prim.Native.Nat.{ℕ, zero, suc, _+_, _<_}
 use native.Mathlib.Omega.{arith}
-use native.Mathlib.Decide.{ℕ-discrete}
-use lib.Dec.{eqb, eqb·suc-zero}
+use lib.Dec.{eqb·suc-zero}
 use lib.ListN.{length, getD}
-use borrow.Author.Tests.{leb-true, le-leb, eqb-true, eqb-false, not-true}
-use Rattle.plan.specs.Choice.{if_then_else_}
-use Rattle.plan.specs.APlan.{Kind, link, ordinary, wait, is, some, points, blank, gapOf, recordsOf}
+use borrow.Author.Tests.{leb-true, le-leb, eqb-false}
+use Rattle.plan.specs.APlan.{link, ordinary, wait, is, some, points, blank, gapOf, recordsOf}
 use Rattle.plan.specs.ReplyNumbers.{checkOf}
 use Rattle.plan.proofs.Accepted.{getD-some}
 use Rattle.records.specs.declared.Record.{Record}
 use Rattle.plan.specs.declared.Plan.{Plan}
-use Rattle.plan.specs.declared.Refusal.{Refusal}
 use Rattle.bounds.specs.Bounds.{boundKept}
 use Rattle.board.specs.Boards.{minute, inBounds, each, sound}
-use Rattle.board.specs.Stuck.{finished}
 use Rattle.board.specs.declared.Board.{Board}
 use Rattle.verdict.specs.Verdicts.{kept, firstBroken, endedOf, verdictOf}
 use Rattle.verdict.specs.declared.Verdict.{Verdict}

@@ -1,56 +1,54 @@
 -- What is promised of the plan that is made, put together. Assumes nothing.
 use mathlib.Core.Path.{_≡_, refl, sym, ap, subst, _∙_}
 use mathlib.Core.Logic.{_≢_, _↔_, _⊎_, inl, inr}
-use mathlib.Core.Bool.{Bool, true, false, not, _&&_, _||_}
-use mathlib.Core.List.{List, [], _∷_, _++_, map}
-use Prim.Native.Nat.{ℕ, zero, suc, _+_, _-_, _*_, _<_, _≤_}
+use mathlib.Core.Bool.{Bool, true, false, not, _||_}
+use mathlib.Core.List.{List, [], _++_, map}
+use Prim.Native.Nat.{ℕ, zero, suc, _+_, _-_, _<_, _≤_}
 use native.Mathlib.Omega.{arith}
-use native.Mathlib.Decide.{ℕ-discrete}
-use lib.Dec.{eqb, ltb, eqb·suc-zero}
-use lib.ListN.{length, getD, take, drop, length-append, length-take, take-append-drop, List·getD-append}
+use lib.Dec.{eqb, ltb}
+use lib.ListN.{length, getD, drop, length-append, length-take, take-append-drop, List·getD-append}
 use lib.Seq.{getD-take}
-use borrow.Author.Tests.{eqb-true, eqb-false, ltb-true, ltb-false, lt-ltb, le-ltb, ne-eqb, not-true, not-false}
+use borrow.Author.Tests.{ltb-true, lt-ltb, ne-eqb}
 use Rattle.plan.specs.Choice.{if_then_else_}
 use Rattle.plan.specs.Limits.{mostPoints, mostOrdinary, mostRecords, farthest}
-use Rattle.plan.specs.APlan.{ordinary, points, blank, recordsOf, planOf}
+use Rattle.plan.specs.APlan.{points, blank, recordsOf, planOf}
 use Rattle.plan.specs.ReplyNumbers.{refusal, accepted, refused, taken, checkOf, checkWith, firstBad}
 use Rattle.plan.specs.Held.{HeldPlan, plain}
 use Rattle.plan.proofs.Accepted as plan
 use Rattle.plan.proofs.Limited.{verdict, Good, good, same}
-use Rattle.plan.proofs.RoundTrip.{records-of-plan, checked-count, names-no-place}
+use Rattle.plan.proofs.RoundTrip.{records-of-plan, checked-count}
 use Rattle.records.specs.declared.Record.{Record}
 use Rattle.plan.specs.declared.Plan.{Plan}
 use Rattle.plan.specs.declared.Reading.{Reading}
 use Rattle.plan.specs.declared.Refusal.{Refusal}
 use Rattle.network.specs.Projection.{Edge}
 use Rattle.network.specs.Walks.{Walk, nil, step}
-use Rattle.network.specs.Passing.{Joined, Cycle, Consistent, Passes}
+use Rattle.network.specs.Passing.{Cycle, Consistent, Passes}
 use Rattle.network.proofs.Laws.{over, not-both}
 use Rattle.tables.specs.Tables.{Table, bias, none}
 use Rattle.tables.specs.Distances.{Inside, Distances}
 use Rattle.rows.specs.Sheet.{by}
-use Rattle.projection.proofs.Laws.{same-distances, same-cycle, same-consistent, same-good, ends}
+use Rattle.projection.proofs.Laws.{same-distances, same-cycle, same-good, ends}
 use Rattle.vee.specs.declared.Answer.the-variants as answer
-use Rattle.vee.specs.PlanTest.{OrdinaryIn, netOf, spans, many, mostProjections, unset, edgesOf, Tested}
+use Rattle.vee.specs.PlanTest.{OrdinaryIn, netOf, spans, many, unset, edgesOf, Tested}
 use Rattle.vee.specs.TestOf.{entry, first, among, hasCycle, testOf}
-use Rattle.vee.proofs.Rules.{Valid, valid, both, clash}
+use Rattle.vee.proofs.Rules.{Valid, valid, both}
 use Rattle.vee.proofs.Edges.{to-given, small-given}
 use Rattle.vee.proofs.Testing.{accepted-plan, nothing-lasts}
 use Rattle.vee.proofs.Yes.{Every, few, passes-yes}
 use Rattle.vee.proofs.Executable.{plan-distances, plan-cycle, plan-capped, none-among, first-so, test-is}
 use Rattle.board.specs.Boards.{minute}
 use Rattle.board.specs.declared.Board.{Board}
-use Rattle.verdict.specs.Verdicts.{endedOf, verdictOf}
-use Rattle.verdict.specs.declared.Verdict.the-variants.{Kept}
-use Rattle.closure.specs.Closing.{hasSteps, distancesOf, gathered, rowOf, recordsBy, pointsIn, madeOf, tooFar, someTooFar, closeOf}
-use Rattle.closure.specs.Promises.{edges, Shortest, OneEach, KeptBy, SameMinutes, Stands, Far, Answers}
+use Rattle.verdict.specs.Verdicts.{endedOf}
+use Rattle.closure.specs.Closing.{hasSteps, distancesOf, rowOf, recordsBy, pointsIn, madeOf, tooFar, someTooFar, closeOf}
+use Rattle.closure.specs.Promises.{edges, IsShortest, OneEach, KeptBy, SameMinutes, Stands, Far, Answers}
 use Rattle.closure.proofs.Gathering.{gathered-few}
-use Rattle.closure.proofs.Networks.{same-entry, Keeps, Made, made-inside, made-consistent, made-distances, made-good, kept-made, made-kept}
+use Rattle.closure.proofs.Networks.{same-entry, Made, made-consistent, made-distances, made-good, kept-made, made-kept}
 use Rattle.closure.proofs.Making.{IsPoint, are-points, many-points, row-few, points-kept, no-steps, points-again, or-true, to-made, from-made, to-ordinary, from-ordinary}
-use Rattle.closure.proofs.Accepting.{fronts, rest-accepted, not-far}
+use Rattle.closure.proofs.Accepting.{fronts, rest-accepted}
 use Rattle.closure.proofs.Coding.{one-among}
 use Rattle.closure.proofs.Closes.{same-records, same-far}
-use Rattle.closure.proofs.OnePlan.{no-spans, KeptIn, kept-edges, edges-kept, verdict-by, by-verdict, same-ended}
+use Rattle.closure.proofs.OnePlan.{no-spans, kept-edges, edges-kept, verdict-by, by-verdict, same-ended}
 
 -- the edges of a plan without durations
 abbrev E : List Record → ℕ → ℕ → ℕ → ℕ → Type 0
@@ -135,7 +133,7 @@ module _ (p : Plan) (ok : checkOf p .number ≡ 0) (none-there : hasSteps (recor
     c = plan-distances rs v unset nothing-lasts calm .1
 
     -- an entry is the shortest distance
-    shortest : (X Y u d : ℕ) → X < n → Y < n → f X Y < none → f X Y + d ≡ bias + u → Shortest p X Y u d
+    shortest : (X Y u d : ℕ) → X < n → Y < n → f X Y < none → f X Y + d ≡ bias + u → IsShortest p X Y u d
     shortest X Y u d hx hy h e =
         let a = D .real X Y hx hy h in
         record {

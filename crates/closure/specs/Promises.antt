@@ -4,7 +4,6 @@
 use mathlib.Core.Path.{_≡_}
 use mathlib.Core.Logic.{_≢_, _↔_, _⊎_}
 use mathlib.Core.Bool.{true, false}
-use mathlib.Core.List.{List}
 use Prim.Native.Nat.{ℕ, _+_, _<_, _≤_}
 use lib.ListN.{getD}
 use Rattle.plan.specs.Limits.{farthest}
@@ -12,7 +11,6 @@ use Rattle.plan.specs.APlan.{ordinary, points, blank, recordsOf}
 use Rattle.plan.specs.ReplyNumbers.{refusal, accepted, refused, checkOf}
 use Rattle.records.specs.declared.Record.{Record}
 use Rattle.plan.specs.declared.Plan.{Plan}
-use Rattle.plan.specs.declared.Reading.{Reading}
 use Rattle.network.specs.Walks.{Walk}
 use Rattle.network.specs.Passing.{Joined, Cycle}
 use Rattle.bounds.specs.Bounds.{boundKept}
@@ -30,7 +28,7 @@ abbrev pub edges : Plan → ℕ → ℕ → ℕ → ℕ → Type 0
 edges p X Y u d = OrdinaryIn (recordsOf p) X u d Y
 
 -- the shortest distance from X to Y is up − down: a path of p's records has that sum, and none has less
-pub record Shortest (p : Plan) (X Y up down : ℕ) : Type 0 where
+pub record IsShortest (p : Plan) (X Y up down : ℕ) : Type 0 where
   pub up′ : ℕ
   pub down′ : ℕ
   pub path : Walk (edges p) X Y up′ down′
@@ -40,7 +38,7 @@ pub record Shortest (p : Plan) (X Y up down : ℕ) : Type 0 where
 -- "one for each pair of different points that a path joins, .. with the shortest distance as bound"
 pub record OneEach (p q : Plan) : Type 0 where
   pub differ : {X u d Y : ℕ} → OrdinaryIn (recordsOf q) X u d Y → X ≢ Y
-  pub bound : {X u d Y : ℕ} → OrdinaryIn (recordsOf q) X u d Y → Shortest p X Y u d
+  pub bound : {X u d Y : ℕ} → OrdinaryIn (recordsOf q) X u d Y → IsShortest p X Y u d
   pub each : {X Y : ℕ} → X ≢ Y → Joined (edges p) X Y → (u : ℕ) × (d : ℕ) × OrdinaryIn (recordsOf q) X u d Y
 
 -- the minutes g keep a plan's ordinary records, each as the verdict judges it
@@ -66,7 +64,8 @@ pub record Stands (p q : Plan) : Type 0 where
   pub many : points (recordsOf q) ≡ points (recordsOf p)
   pub codes : (i : ℕ) → i < points (recordsOf p) → getD (recordsOf q) i blank ≡ getD (recordsOf p) i blank
   -- its distances are the original's, and made again it is the same plan
-  pub distances : (X Y : ℕ) → X < points (recordsOf p) → Y < points (recordsOf p) → entry (distancesOf (recordsOf q)) X Y ≡ entry (distancesOf (recordsOf p)) X Y
+  pub distances : (X Y : ℕ) → X < points (recordsOf p) → Y < points (recordsOf p)
+      → entry (distancesOf (recordsOf q)) X Y ≡ entry (distancesOf (recordsOf p)) X Y
   pub again : closeOf q ≡ closeOf p
 
 -- a distance outside −100,000 to 100,000
@@ -75,7 +74,7 @@ pub record Far (p : Plan) : Type 0 where
   pub Y : ℕ
   pub up : ℕ
   pub down : ℕ
-  pub shortest : Shortest p X Y up down
+  pub shortest : IsShortest p X Y up down
   pub out : (up + farthest < down) ⊎ (down + farthest < up)
 
 -- the answer to any plan: its own refusal; 61 if a link or wait is present; 62 exactly if some cycle sums below zero; 63 exactly if

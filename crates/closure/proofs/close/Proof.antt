@@ -1,7 +1,6 @@
 -- `closure::close` meets its contract. Assumes nothing.
-use mathlib.Core.Path.{_≡_, refl}
+use mathlib.Core.Path.{refl}
 use lib.ListN.{length-map}
-use native.Mathlib.Omega.{arith}
 use borrow.Author.Needs.{needs}
 use Rattle.closure.proofs.Closes.{close-refused, few-records, close-steps, fill-ready, few-points, points-ready, close-cycle, close-far, close-made}
 use Rattle.closure.proofs.close.Statement.{statement}

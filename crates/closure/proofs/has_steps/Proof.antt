@@ -1,13 +1,10 @@
 -- `closure::has_steps` meets its contract. Assumes nothing.
-use mathlib.Core.Path.{_≡_, refl, sym, ap, _∙_}
-use mathlib.Core.Bool.{Bool, _||_}
-use Prim.Native.Nat.{ℕ, _-_, _<_, _≤_}
+use mathlib.Core.Path.{_≡_, refl}
+use Prim.Native.Nat.{_-_, _≤_}
 use native.Mathlib.Omega.{arith}
 use borrow.Author.Needs.{needs}
-use lib.ListN.{length, take, length-map}
+use lib.ListN.{length, length-map}
 use Rattle.plan.specs.Limits.{mostRecords}
-use Rattle.plan.specs.APlan.{some, recordsOf}
-use Rattle.closure.specs.Closing.{isStep}
 use Rattle.closure.proofs.Coding.{Looked, looked-none, looked-more, looked-all}
 use Rattle.closure.proofs.has_steps.Statement.{statement}
 use Rattle.closure.proofs.has_steps.Tie as tie

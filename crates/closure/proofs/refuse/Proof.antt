@@ -1,5 +1,5 @@
 -- `closure::refuse` meets its contract. Assumes nothing.
-use mathlib.Core.Path.{_≡_, refl}
+use mathlib.Core.Path.{refl}
 use borrow.Author.Needs.{needs}
 use Rattle.closure.proofs.refuse.Statement.{statement}
 use Rattle.closure.proofs.refuse.Tie as tie

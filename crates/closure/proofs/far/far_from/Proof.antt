@@ -1,9 +1,7 @@
 -- `closure::far::far_from` meets its contract. Assumes nothing.
-use mathlib.Core.Path.{_≡_, sym, _∙_}
-use mathlib.Core.Bool.{false}
-use Prim.Native.Nat.{ℕ, _-_, _<_, _≤_}
+use mathlib.Core.Path.{sym, _∙_}
+use Prim.Native.Nat.{_-_}
 use native.Mathlib.Omega.{arith}
-use native.Mathlib.Decide.{ℕ-discrete}
 use borrow.Author.Needs.{needs}
 use Rattle.tables.specs.Entries.{at}
 use Rattle.closure.specs.Closing.{tooFar}

@@ -1,12 +1,11 @@
 -- `closure::made::first_records` meets its contract. Assumes nothing.
-use mathlib.Core.Path.{_≡_, refl, ap}
+use mathlib.Core.Path.{_≡_, ap}
 use mathlib.Core.List.{List}
-use Prim.Native.Nat.{ℕ, _-_, _≤_, _<_}
+use Prim.Native.Nat.{_-_}
 use native.Mathlib.Omega.{arith}
 use borrow.Author.Needs.{needs}
-use lib.ListN.{length, take, length-map, length-set}
+use lib.ListN.{length, length-map, length-set}
 use Rattle.plan.specs.Limits.{mostRecords}
-use Rattle.plan.specs.APlan.{recordsOf}
 use Rattle.records.specs.declared.Record.{Record}
 use Rattle.closure.proofs.Coding.{Copied, copied-none, copied-more, copied-all}
 use Rattle.closure.proofs.made.first_records.Statement.{statement}

@@ -1,5 +1,4 @@
 -- `closure::made::record_if` meets its contract. Assumes nothing.
-use mathlib.Core.Path.{_≡_, refl, _∙_}
 use borrow.Author.Needs.{needs}
 use Rattle.closure.proofs.made.record_if.Statement.{statement}
 use Rattle.closure.proofs.made.record_if.Tie as tie

@@ -1,13 +1,12 @@
 -- `closure::made::with_row` meets its contract. Assumes nothing.
-use mathlib.Core.Path.{_≡_, refl, sym, _∙_}
-use mathlib.Core.Bool.{true}
-use Prim.Native.Nat.{ℕ, _+_, _-_, _≤_, _<_}
+use mathlib.Core.Path.{_≡_}
+use Prim.Native.Nat.{_+_, _-_, _≤_, _<_}
 use native.Mathlib.Omega.{arith}
 use borrow.Author.Needs.{needs}
 use lib.ListN.{length, take, length-map, length-set}
 use Rattle.plan.specs.Limits.{mostRecords}
 use Rattle.tables.specs.Tables.{side}
-use Rattle.tables.specs.Entries.{at, raw, nowhere}
+use Rattle.tables.specs.Entries.{at, raw}
 use Rattle.closure.proofs.Coding.{RowSofar, row-start, row-more, row-end, filled-whole, pairs-wide, pairs-there}
 use Rattle.closure.proofs.made.with_row.Statement.{statement}
 use Rattle.closure.proofs.made.with_row.Tie as tie

@@ -1,8 +1,7 @@
 -- `closure::made::with_rows` meets its contract. Assumes nothing.
-use mathlib.Core.Path.{_≡_, refl}
-use Prim.Native.Nat.{ℕ, _-_, _≤_}
+use mathlib.Core.Path.{refl}
+use Prim.Native.Nat.{_-_}
 use native.Mathlib.Omega.{arith}
-use borrow.Author.Needs.{needs}
 use Rattle.plan.specs.APlan.{recordsOf}
 use Rattle.tables.specs.Entries.{at}
 use Rattle.closure.proofs.Coding.{RowsSofar, rows-start, row-ready, rows-more, rows-end}

@@ -7,7 +7,7 @@ use Prim.Native.Nat.{ℕ}
 use Prim.Native.String.{String}
 use lib.Dec.{eqb}
 use Rattle.records.specs.Records.{howMany, some, firstThat}
-use Rattle.plan.specs.ReplyNumbers.{checkOf, firstBad, lastKind, numberFor}
+use Rattle.plan.specs.ReplyNumbers.{checkWith, firstBadWith, lastKind, numberForWith}
 use Rattle.values.specs.Ascii.{ascii}
 use Rattle.values.specs.Values.{same, kindOf, allDigits, valueFrom, isNegative, unsigned, isShaped, shapedCode}
 use Rattle.fields.specs.Quoting.{fieldsFrom}
@@ -55,7 +55,7 @@ lines =
     ∷ []
 
 lines-right : wrong lines ≡ []
-unfolding wrong answered unlessRight lines importRows readAs rowOf readable recordOf before pieces withoutRest beginsLf fieldsFrom same kindOf allDigits valueFrom isNegative unsigned isShaped shapedCode checkOf firstBad lastKind numberFor howMany some firstThat
+unfolding wrong answered unlessRight lines importRows readAs rowOf readable recordOf before pieces withoutRest beginsLf fieldsFrom same kindOf allDigits valueFrom isNegative unsigned isShaped shapedCode checkWith firstBadWith lastKind numberForWith howMany some firstThat
 lines-right = refl
 
 -- quoting: fields with and without quotes, doubled quotes, and what breaks it
@@ -81,7 +81,7 @@ quoting =
     ∷ []
 
 quoting-right : wrong quoting ≡ []
-unfolding wrong answered unlessRight quoting importRows readAs rowOf readable recordOf before pieces withoutRest beginsLf fieldsFrom same kindOf allDigits valueFrom isNegative unsigned isShaped shapedCode checkOf firstBad lastKind numberFor howMany some firstThat
+unfolding wrong answered unlessRight quoting importRows readAs rowOf readable recordOf before pieces withoutRest beginsLf fieldsFrom same kindOf allDigits valueFrom isNegative unsigned isShaped shapedCode checkWith firstBadWith lastKind numberForWith howMany some firstThat
 quoting-right = refl
 
 -- the order within a line: 40, 41, 42, 43; and of lines
@@ -103,7 +103,7 @@ order =
     ∷ []
 
 order-right : wrong order ≡ []
-unfolding wrong answered unlessRight order importRows readAs rowOf readable recordOf before pieces withoutRest beginsLf fieldsFrom same kindOf allDigits valueFrom isNegative unsigned isShaped shapedCode checkOf firstBad lastKind numberFor howMany some firstThat
+unfolding wrong answered unlessRight order importRows readAs rowOf readable recordOf before pieces withoutRest beginsLf fieldsFrom same kindOf allDigits valueFrom isNegative unsigned isShaped shapedCode checkWith firstBadWith lastKind numberForWith howMany some firstThat
 order-right = refl
 
 -- kind words, lower case and exactly
@@ -125,7 +125,7 @@ words =
     ∷ []
 
 words-right : wrong words ≡ []
-unfolding wrong answered unlessRight words importRows readAs rowOf readable recordOf before pieces withoutRest beginsLf fieldsFrom same kindOf allDigits valueFrom isNegative unsigned isShaped shapedCode checkOf firstBad lastKind numberFor howMany some firstThat
+unfolding wrong answered unlessRight words importRows readAs rowOf readable recordOf before pieces withoutRest beginsLf fieldsFrom same kindOf allDigits valueFrom isNegative unsigned isShaped shapedCode checkWith firstBadWith lastKind numberForWith howMany some firstThat
 words-right = refl
 
 -- numbers: digits behind an optional minus, an empty one is 0, and what its place cannot hold is 42
@@ -159,7 +159,7 @@ numbers =
     ∷ []
 
 numbers-right : wrong numbers ≡ []
-unfolding wrong answered unlessRight numbers importRows readAs rowOf readable recordOf before pieces withoutRest beginsLf fieldsFrom same kindOf allDigits valueFrom isNegative unsigned isShaped shapedCode checkOf firstBad lastKind numberFor howMany some firstThat
+unfolding wrong answered unlessRight numbers importRows readAs rowOf readable recordOf before pieces withoutRest beginsLf fieldsFrom same kindOf allDigits valueFrom isNegative unsigned isShaped shapedCode checkWith firstBadWith lastKind numberForWith howMany some firstThat
 numbers-right = refl
 
 -- pond codes: two capital letters and four digits, or none
@@ -187,7 +187,7 @@ codes =
     ∷ []
 
 codes-right : wrong codes ≡ []
-unfolding wrong answered unlessRight codes importRows readAs rowOf readable recordOf before pieces withoutRest beginsLf fieldsFrom same kindOf allDigits valueFrom isNegative unsigned isShaped shapedCode checkOf firstBad lastKind numberFor howMany some firstThat
+unfolding wrong answered unlessRight codes importRows readAs rowOf readable recordOf before pieces withoutRest beginsLf fieldsFrom same kindOf allDigits valueFrom isNegative unsigned isShaped shapedCode checkWith firstBadWith lastKind numberForWith howMany some firstThat
 codes-right = refl
 
 -- anything that a spreadsheet has turned into a date
@@ -212,5 +212,5 @@ dates =
     ∷ []
 
 dates-right : wrong dates ≡ []
-unfolding wrong answered unlessRight dates importRows readAs rowOf readable recordOf before pieces withoutRest beginsLf fieldsFrom same kindOf allDigits valueFrom isNegative unsigned isShaped shapedCode checkOf firstBad lastKind numberFor howMany some firstThat
+unfolding wrong answered unlessRight dates importRows readAs rowOf readable recordOf before pieces withoutRest beginsLf fieldsFrom same kindOf allDigits valueFrom isNegative unsigned isShaped shapedCode checkWith firstBadWith lastKind numberForWith howMany some firstThat
 dates-right = refl

@@ -13,7 +13,7 @@ use Rattle.records.specs.Records.{blank}
 use Rattle.records.specs.declared.Record.{Record}
 use Rattle.plan.specs.Limits.{mostRecords}
 use Rattle.plan.specs.APlan.{planOf}
-use Rattle.plan.specs.ReplyNumbers.{refusal, checkOf}
+use Rattle.plan.specs.ReplyNumbers.{refusal, checkOf, checkWith}
 use Rattle.plan.specs.declared.Plan.{Plan}
 use Rattle.office.specs.Sheets.{Row, bad, good, lineRow, rowsOf, pieces, withoutRest, linesOf, refused, readAs, importRows, importOf}
 use Rattle.office.specs.Inside.{firstLine, endFrom, asLine, lineAt, planBy, finished}
@@ -52,7 +52,7 @@ plan-by rs n records e h q =
 
 -- past the room it is refused with 3, whatever the room holds
 too-long : (p : Plan) → mostRecords < p .count → checkOf p ≡ refusal 3 0
-unfolding checkOf
+unfolding checkWith
 too-long p h = rw (ne-eqb (p .count) 0 (λ e. omega arith), lt-ltb mostRecords (p .count) h)
 
 finished-is : (rs : List Record) (n : ℕ) (records : List Record) → n ≡ length rs → (n ≤ mostRecords → records ≡ rs ++ replicate (mostRecords - n) blank)

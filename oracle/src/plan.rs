@@ -4,13 +4,25 @@ use crate::Refusal;
 
 /// Bytes of a record.
 pub const RECORD: usize = 16;
-/// Records that a plan may have: 32 + 8 + 256 + 64.
-pub const ROOM: usize = 360;
+/// Ordinary records that a plan may have (document 02, more constraints).
+pub const ORDINARIES: usize = 1_024;
+/// As many as document 01 had allowed.
+pub const OLD_ORDINARIES: usize = 256;
+/// Records that a plan may have.
+pub const ROOM: usize = room(ORDINARIES);
 /// The largest minute count in any record.
 pub const BOUND: i64 = 100_000;
 
-/// How many records of kinds 1, 2, 3 and 4 are allowed.
-const ALLOWED: [usize; 4] = [32, 8, 256, 64];
+/// How many records of kinds 1, 2, 3 and 4 are allowed where so many ordinary ones are.
+const fn allowed(ordinaries: usize) -> [usize; 4] {
+    [32, 8, ordinaries, 64]
+}
+
+/// How many records are allowed in all where so many ordinary ones are.
+pub const fn room(ordinaries: usize) -> usize {
+    let [points, links, ordinaries, waits] = allowed(ordinaries);
+    points + links + ordinaries + waits
+}
 
 /// The bytes that the table shows as 0 (byte 3 too), from and up to, for kinds 1, 2, 3 and 4.
 const ZEROS: [&[(usize, usize)]; 4] = [
@@ -79,8 +91,8 @@ impl Plan {
         self.link_to(wait.c).expect("the C of a wait is watched")
     }
 
-    /// Adds the next record of a file, or answers a number 4 to 11, or 15.
-    fn add(&mut self, kind_before: u8, record: &[u8]) -> Result<(), u32> {
+    /// Adds the next record of a file where so many of each kind are allowed, or answers a number 4 to 11, or 15.
+    fn add(&mut self, allowed: &[usize; 4], kind_before: u8, record: &[u8]) -> Result<(), u32> {
         let kind = record[0];
         if !(1..=4).contains(&kind) {
             return Err(4);
@@ -95,7 +107,7 @@ impl Plan {
             self.ordinary.len(),
             self.waits.len(),
         ];
-        if present[row] == ALLOWED[row] {
+        if present[row] == allowed[row] {
             return Err(6);
         }
         for &(from, to) in ZEROS[row] {
@@ -283,19 +295,25 @@ impl Eq for RawPlan {}
 
 /// Reads a plan file.
 pub fn read(bytes: &[u8]) -> Result<Plan, Refusal> {
+    read_with(ORDINARIES, bytes)
+}
+
+/// Reads a plan file where so many ordinary records are allowed: by 256 as a desk on the old reader does.
+pub fn read_with(ordinaries: usize, bytes: &[u8]) -> Result<Plan, Refusal> {
     if bytes.is_empty() {
         return Err((1, 0));
     }
     if bytes.len() % RECORD != 0 {
         return Err((2, 0));
     }
-    if bytes.len() / RECORD > ROOM {
+    if bytes.len() / RECORD > room(ordinaries) {
         return Err((3, 0));
     }
+    let allowed = allowed(ordinaries);
     let mut plan = Plan::default();
     let mut kind_before = 0;
     for (place, record) in bytes.chunks(RECORD).enumerate() {
-        if let Err(number) = plan.add(kind_before, record) {
+        if let Err(number) = plan.add(&allowed, kind_before, record) {
             return Err((number, place as u32));
         }
         kind_before = record[0];

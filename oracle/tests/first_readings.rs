@@ -131,7 +131,7 @@ fn order_of_the_file_numbers() {
     let mut file = bytes(&records(32, &[]));
     file.extend(record(1, 32, 7, 0, 0, 0).bytes());
     assert_eq!(oracle::plan::read(&file), Err((6, 32)));
-    assert_eq!(oracle::plan::read(&[0; 361 * 16]), Err((3, 0)));
+    assert_eq!(oracle::plan::read(&[0; 1_129 * 16]), Err((3, 0)));
 }
 
 #[test]

@@ -35,8 +35,8 @@ fn a_refused_plan_prints_one_line() {
         assert_eq!(print(&MARK), "plan 1 0\n");
         assert_eq!(print(&[1; 15]), "plan 2 0\n");
         assert_eq!(print(&[255; 15]), "plan 2 0\n");
-        assert_eq!(print(&[0; 360 * 16]), "plan 4 0\n");
-        assert_eq!(print(&[0; 361 * 16]), "plan 3 0\n");
+        assert_eq!(print(&[0; 1_128 * 16]), "plan 4 0\n");
+        assert_eq!(print(&[0; 1_129 * 16]), "plan 3 0\n");
         assert_eq!(print(&[0; 5000 * 16]), "plan 3 0\n");
         assert_eq!(print(&[0; 5000 * 16 + 7]), "plan 2 0\n");
         assert_eq!(print(&bad), "plan 8 3\n");

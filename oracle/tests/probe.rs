@@ -57,7 +57,7 @@ fn boards_of_any_content() {
 #[test]
 fn plans_by_value_and_buffers() {
     let count = |count| request(1, [0; 3], [count, 0, 0]);
-    let lines = answers(&[call(19), haul_on_the_desk(), count(361), call(19)]);
+    let lines = answers(&[call(19), haul_on_the_desk(), count(1_129), call(19)]);
     assert_eq!(lines, ["19 1 0 0", "19 3 0 0"]);
     let buffer = |length| request(5, [0; 3], [length, 0, 0]);
     let lines = answers(&[

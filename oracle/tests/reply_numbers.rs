@@ -5,7 +5,7 @@ use common::*;
 use oracle::board::{reply, sound, Board};
 use oracle::by_value;
 use oracle::event::take;
-use oracle::plan::{check, read, read_by_value, write, RawPlan, RawRecord};
+use oracle::plan::{check, read, read_by_value, read_with, write, RawPlan, RawRecord};
 use oracle::plan_test::{plan_test, Answer};
 use oracle::verdict::{judge, verdict, Listed, Verdict};
 
@@ -36,11 +36,12 @@ fn numbers_1_and_2_lengths() {
 
 #[test]
 fn number_3_too_many() {
-    assert_eq!(reading(&[0; 360 * 16]), (4, 0));
-    assert_eq!(reading(&[0; 360 * 16 + 1]), (2, 0));
-    assert_eq!(reading(&[0; 361 * 16]), (3, 0));
-    assert_eq!(reading(&[0; 361 * 16 + 15]), (2, 0));
-    assert_eq!(reading(&[0; 1000 * 16]), (3, 0));
+    assert_eq!(reading(&[0; 361 * 16]), (4, 0));
+    assert_eq!(reading(&[0; 1_128 * 16]), (4, 0));
+    assert_eq!(reading(&[0; 1_128 * 16 + 1]), (2, 0));
+    assert_eq!(reading(&[0; 1_129 * 16]), (3, 0));
+    assert_eq!(reading(&[0; 1_129 * 16 + 15]), (2, 0));
+    assert_eq!(reading(&[0; 5_000 * 16]), (3, 0));
 }
 
 #[test]
@@ -96,9 +97,10 @@ fn number_6_one_too_many() {
     let links: Vec<_> = (0..9).map(|n| link(n, 1, 2, n + 10)).collect();
     assert_eq!(refusal(32, &links[..8]), (0, 0));
     assert_eq!(refusal(32, &links), (6, 40));
-    let ordinaries = ordinaries(257);
-    assert_eq!(refusal(32, &ordinaries[..256]), (0, 0));
-    assert_eq!(refusal(32, &ordinaries), (6, 288));
+    // Twins are refused before there can be one too many of the ordinary records (document 02).
+    let all = ordinaries(992);
+    assert_eq!(refusal(32, &all), (0, 0));
+    assert_eq!(refusal(32, &[&all[..], &all[..33]].concat()), (15, 1_024));
     let mut waits = vec![link(0, 1, 2, 1)];
     waits.extend(vec![wait(2, 1, 1); 65]);
     assert_eq!(refusal(3, &waits[..65]), (0, 0));
@@ -245,17 +247,18 @@ fn number_15_twins() {
     );
     assert_eq!(refusal(3, &[started, wait(2, 1, 4), wait(2, 1, 5)]), (0, 0));
     // At each place among many.
-    let all = ordinaries(256);
-    for place in 1..256 {
+    let all = ordinaries(992);
+    for place in (1..32).chain((32..992).step_by(31)).chain([991]) {
         for of in [0, place / 2, place - 1] {
             let mut some = all.clone();
             some[place] = ordinary(all[of].a, 3, all[of].b);
             assert_eq!(refusal(32, &some), (15, 32 + place as u32));
         }
     }
-    // After 6, 7, 8 and 9, and before 11.
-    let one_more = [&all[..], &[all[0]]].concat();
-    assert_eq!(refusal(32, &one_more), (6, 288));
+    // After 6, which the old limit shows, and 7, 8 and 9, and before 11.
+    let one_more = bytes(&records(32, &[&all[..256], &all[..1]].concat()));
+    assert_eq!(read_with(256, &one_more), Err((6, 288)));
+    assert_eq!(read_with(257, &one_more), Err((15, 288)));
     assert_eq!(refusal(3, &[tight, record(3, 0, 1, 9, 1, 0)]), (7, 4));
     assert_eq!(refusal(3, &[tight, ordinary(0, 9, 3)]), (8, 4));
     assert_eq!(refusal(3, &[tight, ordinary(0, 9, 0)]), (9, 4));
@@ -580,15 +583,17 @@ fn plans_by_value() {
     assert_eq!(check(&good), Ok(haul()));
     assert_eq!(good.count, 9);
     assert_eq!(check(&RawPlan::empty()), Err((1, 0)));
-    for count in [361, u32::MAX] {
+    for count in [1_129, u32::MAX] {
         let mut bad = good.clone();
         bad.count = count;
         assert_eq!(check(&bad), Err((3, 0)));
     }
-    // 360 records pass test 3; here the first unused one is of kind 0.
-    let mut bad = good.clone();
-    bad.count = 360;
-    assert_eq!(check(&bad), Err((4, 9)));
+    // 1,128 records pass test 3; here the first unused one is of kind 0.
+    for count in [361, 1_128] {
+        let mut bad = good.clone();
+        bad.count = count;
+        assert_eq!(check(&bad), Err((4, 9)));
+    }
     // Garbage in unused room counts for nothing.
     let mut dirty = good.clone();
     dirty.records[9] = record(200, 1, 2, 3, 4, 5);

@@ -101,26 +101,30 @@ fn case_10_stuck_when_fresh() {
     assert_eq!(plan_test(&plan), Ok(Answer::Cycle(0)));
 }
 
+/// With the limit of document 02: 360 of document 01 is 1,128.
 #[test]
 fn case_11_room() {
-    // 32 points, 8 links, 256 ordinary records, 64 waits.
+    // 32 points, 8 links, an ordinary record for each pair of points (more would be twins), 64 waits.
     let mut rest = Vec::new();
     for n in 0..8 {
         rest.push(link(n, 1, 2, 8 + n));
     }
-    rest.extend(ordinaries(256));
+    rest.extend(ordinaries(992));
     rest.extend([wait(20, 8, 2)].repeat(64));
     let full = records(32, &rest);
-    assert_eq!(full.len(), 360);
-    assert_eq!(read(&bytes(&full)).unwrap().records(), 360);
-
-    // 361 records don't pass test 3, though record 360 alone is what is wrong with them.
+    assert_eq!(full.len(), 1_096);
+    assert_eq!(read(&bytes(&full)).unwrap().records(), 1_096);
     let mut more = full.clone();
     more.push(wait(20, 8, 2));
+    assert_eq!(read(&bytes(&more)), Err((6, 1_096)));
+
+    // 1,128 bad records pass test 3, 1,129 don't.
+    assert_eq!(read(&[9; 18_048]), Err((4, 0)));
+    assert_eq!(read(&[9; 18_048 + 16]), Err((3, 0)));
+    // Nor do they where only one past the first 1,128 is wrong.
+    more.resize(1_129, wait(20, 8, 2));
+    assert_eq!(read(&bytes(&more[..1_128])), Err((6, 1_096)));
     assert_eq!(read(&bytes(&more)), Err((3, 0)));
-    // 360 bad records pass test 3.
-    assert_eq!(read(&[9; 360 * 16]), Err((4, 0)));
-    assert_eq!(read(&[9; 361 * 16]), Err((3, 0)));
 
     assert_eq!(refusal(32, &[]), (0, 0));
     assert_eq!(refusal(33, &[]), (6, 32));

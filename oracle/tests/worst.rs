@@ -65,7 +65,7 @@ fn a_day_as_a_sheet() {
 fn refusals() {
     assert_eq!(worst_line(&[]), "plan 1 0");
     assert_eq!(worst_line(&[1; 17]), "plan 2 0");
-    assert_eq!(worst_line(&[1; 361 * 16]), "plan 3 0");
+    assert_eq!(worst_line(&[1; 1_129 * 16]), "plan 3 0");
     // No mark is looked for: it is a record of kind 255.
     let marked = [haul().to_bytes(), vec![255; 16]].concat();
     assert_eq!(worst_line(&marked), "plan 4 9");

@@ -447,7 +447,7 @@ fn each_tail(draw: &mut Draw) -> Vec<Input> {
     inputs
 }
 
-/// Plan parts longer than 360 records, by one and by far.
+/// Plan parts longer than there is room for, by one and by far, and longer than there was room for in document 01.
 fn long_parts(draw: &mut Draw) -> Vec<Input> {
     let plan = small_good(draw);
     let part = if draw.one_in(2) {
@@ -457,8 +457,9 @@ fn long_parts(draw: &mut Draw) -> Vec<Input> {
     };
     let stream = events::stream(draw, &plan, Style::Good);
     let mut inputs = Vec::new();
-    let far = draw.pick(&[400, 720, 1_000, 4_095, 4_096, 4_097, 20_000]);
-    for count in [ROOM - 1, ROOM, ROOM + 1, ROOM + 2, far] {
+    let old = plan::room(plan::OLD_ORDINARIES) + draw.below(2);
+    let far = draw.pick(&[1_200, 2 * ROOM, 4_095, 4_096, 4_097, 20_000]);
+    for count in [old, ROOM - 1, ROOM, ROOM + 1, ROOM + 2, far] {
         let any = draw.byte();
         let filler = draw.pick(&[0, 1, 3, 254, any]);
         let mut long = part.clone();

@@ -13,15 +13,20 @@ pub struct Sizes {
     pub waits: usize,
 }
 
-/// The limits of document 01.
+/// As much as a plan holds: of ordinary records one for each pair of different points, since more would be twins.
 pub const FULL: Sizes = Sizes {
     points: 32,
     links: 8,
-    ordinary: 256,
+    ordinary: 992,
     waits: 64,
 };
 
 impl Sizes {
+    /// How many records in all.
+    pub fn records(&self) -> usize {
+        self.points + self.links + self.ordinary + self.waits
+    }
+
     /// A few records.
     pub fn small(draw: &mut Draw) -> Sizes {
         Sizes {
@@ -34,10 +39,11 @@ impl Sizes {
 
     /// Anything up to the limits.
     pub fn any(draw: &mut Draw) -> Sizes {
+        let most = draw.pick(&[100, 256, FULL.ordinary as i64]);
         Sizes {
             points: draw.edgy(1, 32) as usize,
             links: draw.edgy(0, 8) as usize,
-            ordinary: draw.edgy(0, 256) as usize,
+            ordinary: draw.edgy(0, most) as usize,
             waits: draw.edgy(0, 64) as usize,
         }
     }
@@ -154,7 +160,7 @@ pub fn full(draw: &mut Draw) -> Plan {
         while !drawn.is_empty() && plan.waits.len() < FULL.waits {
             plan.waits.push(draw.pick(&drawn));
         }
-        if plan.records() == oracle::plan::ROOM {
+        if plan.records() == FULL.records() {
             return plan;
         }
     }

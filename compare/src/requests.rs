@@ -5,7 +5,7 @@ use crate::damage;
 use crate::draw::Draw;
 use crate::events;
 use crate::inputs::Input;
-use crate::plans::{self, Sizes};
+use crate::plans::{self, Sizes, FULL};
 use oracle::board::{Board, PLACES};
 use oracle::event;
 use oracle::plan::{Link, Plan, RawRecord, BOUND, RECORD, ROOM};
@@ -24,6 +24,8 @@ pub const STREAM: u8 = 24;
 /// So many bounds of a list are judged, and so many numbers a stream's room has at most.
 const LIST: usize = 4_096;
 const STREAM_ROOM: usize = 12_288;
+/// A count of records that is one too many.
+const PAST: u32 = ROOM as u32 + 1;
 
 /// Requests one after another.
 #[derive(Default)]
@@ -346,7 +348,7 @@ fn any_plans(draw: &mut Draw) -> Vec<Input> {
         let mut records: Vec<RawRecord> = part.chunks(RECORD).map(raw).collect();
         let mut count = records.len() as u32;
         match draw.below(6) {
-            0 => count = draw.pick(&[0, 361, 362, 1 << 31, u32::MAX]),
+            0 => count = draw.pick(&[0, 361, PAST, PAST + 1, 1 << 31, u32::MAX]),
             1 => count = draw.below(ROOM + 2) as u32,
             // Records past the count stand for nothing.
             2 => records.extend(part.chunks(RECORD).rev().map(raw)),
@@ -572,7 +574,7 @@ fn lists(draw: &mut Draw) -> Vec<Input> {
             requests.buffer(&bytes, counts, fill);
             requests.call(JUDGE);
             if draw.one_in(8) {
-                let count = draw.pick(&[0, 361, u32::MAX]);
+                let count = draw.pick(&[0, 361, PAST, u32::MAX]);
                 requests.ask(1, [0; 3], [count, 0, 0]);
                 requests.call(JUDGE);
                 requests.plan(&plan);
@@ -645,14 +647,14 @@ fn streams(draw: &mut Draw) -> Vec<Input> {
     inputs
 }
 
-/// Adds ordinary records or points, or doubles a wait, until there is one too many.
+/// Adds points or ordinary records, or doubles a wait, until there is one too many.
 fn one_too_many(draw: &mut Draw, part: &mut Vec<u8>) {
     let kind = draw.pick(&[1, 3, 4]);
     let mut records: Vec<Vec<u8>> = part.chunks(RECORD).map(<[u8]>::to_vec).collect();
     let count = records.iter().filter(|record| record[0] == kind).count();
     let points = records.iter().filter(|record| record[0] == 1).count() as u8;
-    let most = [0, 32, 8, 256, 64][usize::from(kind)];
-    // Pairs that no ordinary record has: with them it is one too many, and where they run out a twin.
+    let most = [0, 32, 8, FULL.ordinary, 64][usize::from(kind)];
+    // Pairs that no ordinary record has: where they run out, one too many is a twin.
     let pairs = (0..points).flat_map(|x| (0..points).map(move |y| [x, y]));
     let free = |pair: &[u8; 2]| {
         let taken = |record: &Vec<u8>| record[0] == 3 && record[1..3] == *pair;

@@ -184,7 +184,7 @@ const ALL: &[Wrong] = &[
     ),
     wrong(
         "sheet",
-        "361 records are read",
+        "one record more than there is room for is read",
         "if (n / RECORD > RECORDS) return (refusal){3, 0};",
         "if (n / RECORD > RECORDS + 1) return (refusal){3, 0};",
     ),
@@ -196,7 +196,7 @@ const ALL: &[Wrong] = &[
     ),
     wrong(
         "probe",
-        "a plan by value of 361 records is taken for one of another number",
+        "a plan by value with one record too many is taken for one of another number",
         "if (p->count > RECORDS) return (refusal){3, 0};",
         "if (p->count > RECORDS) return (refusal){6, 0};",
     ),

@@ -3,7 +3,7 @@
 
 use crate::board::{self, Board, Outcome, Place};
 use crate::event;
-use crate::plan::{self, Plan, RECORD};
+use crate::plan::{Plan, RECORD};
 use crate::plan_test::{self, Answer, Odometer};
 
 /// A run of one projection: its events, and the board that they finish.
@@ -110,24 +110,4 @@ pub fn day(plan: &Plan, projection: u32) -> Result<Vec<[u8; RECORD]>, u32> {
 
 fn finished(plan: &Plan, durations: &[i64]) -> Run {
     run(plan, durations).expect("a plan that passes the test does not stick")
-}
-
-/// What `oracle-worst` prints of a plan file.
-pub fn worst_line(file: &[u8]) -> String {
-    let plan = match plan::read(file) {
-        Ok(plan) => plan,
-        Err((number, record)) => return format!("plan {number} {record}"),
-    };
-    match worst(&plan) {
-        Ok(Worst { minute, projection }) => format!("worst {minute} {projection}"),
-        Err(number) => format!("worst {number}"),
-    }
-}
-
-/// What `oracle-day` prints of a plan file: the file, the mark and the events, or a line about why not.
-pub fn day_bytes(file: &[u8], projection: u32) -> Result<Vec<u8>, String> {
-    let refused = |(number, record)| format!("plan {number} {record}");
-    let plan = plan::read(file).map_err(refused)?;
-    let events = day(&plan, projection).map_err(|number| format!("day {number}"))?;
-    Ok([file, &[255; RECORD], &events.concat()].concat())
 }

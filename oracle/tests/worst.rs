@@ -3,10 +3,41 @@
 mod common;
 
 use common::*;
+use oracle::desk::{Said, Verb};
 use oracle::plan::Plan;
 use oracle::plan_test::{distances, edges, plan_test, Answer, Odometer};
 use oracle::text::sheet;
-use oracle::worst::{day, day_bytes, run, worst, worst_line, Worst};
+use oracle::worst::{day, run, worst, Worst};
+
+/// What `desk worst` prints of a plan file, which is a refusal where there is one number.
+fn worst_line(file: &[u8]) -> String {
+    let said = Verb::Worst.said(file);
+    let text = String::from_utf8(said.output).unwrap();
+    let line = text.strip_suffix('\n').unwrap();
+    let refused = line.starts_with("plan") || line.split(' ').count() == 2;
+    assert_eq!((said.errors, said.status), (vec![], u8::from(refused)));
+    line.to_string()
+}
+
+/// What `desk day` says of a plan file: standard output, or the line on standard error.
+fn day_bytes(file: &[u8], projection: u32) -> Result<Vec<u8>, String> {
+    match Verb::Day(projection).said(file) {
+        Said {
+            output,
+            errors,
+            status: 0,
+        } if errors.is_empty() => Ok(output),
+        Said {
+            output,
+            errors,
+            status: 1,
+        } if output.is_empty() => {
+            let text = String::from_utf8(errors).unwrap();
+            Err(text.strip_suffix('\n').unwrap().to_string())
+        }
+        other => panic!("{other:?}"),
+    }
+}
 
 /// The events of a run as minute, foreman's point and set.
 fn said(events: &[[u8; 16]]) -> Vec<(u32, u8, u32)> {
@@ -51,7 +82,7 @@ fn the_haul_by_hand() {
     assert_eq!(day_bytes(&file, 31), Ok([&file[..], &[255; 16]].concat()));
 }
 
-/// What `oracle-day` prints is what `sheet` reads.
+/// What `desk day` prints is what `sheet` reads.
 #[test]
 fn a_day_as_a_sheet() {
     let input = day_bytes(&haul().to_bytes(), 15).unwrap();

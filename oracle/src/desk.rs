@@ -1,5 +1,6 @@
 //! The program `desk`: a verb and its words, standard input to standard output.
 
+use crate::import;
 use crate::plan::{self, Plan};
 use crate::text::{self, MARK};
 use crate::worst::{self, Worst};
@@ -18,10 +19,11 @@ pub enum Verb {
     Test,
     Worst,
     Day(u32),
+    Import,
 }
 
 /// The line about wrong usage.
-const USAGE: &str = "usage: oracle-desk test | worst | day PROJECTION";
+const USAGE: &str = "usage: oracle-desk test | worst | day PROJECTION | import";
 
 impl Verb {
     /// None where there is no such verb, or the words are not its words.
@@ -30,6 +32,7 @@ impl Verb {
             ["test"] => Some(Verb::Test),
             ["worst"] => Some(Verb::Worst),
             ["day", projection] => number(projection).map(Verb::Day),
+            ["import"] => Some(Verb::Import),
             _ => None,
         }
     }
@@ -40,6 +43,7 @@ impl Verb {
             Verb::Test => lines(test(input)),
             Verb::Worst => lines(worst(input)),
             Verb::Day(projection) => file(day(input, projection)),
+            Verb::Import => file(import(input)),
         }
     }
 }
@@ -111,4 +115,11 @@ fn day(file: &[u8], projection: u32) -> Result<Vec<u8>, String> {
     let events = worst::day(&plan(file)?, projection);
     let events = events.map_err(|number| format!("day {number}"))?;
     Ok([file, &MARK, &events.concat()].concat())
+}
+
+/// The plan file of a text. The reader's own numbers are said as the others are: the record is the line.
+fn import(text: &[u8]) -> Result<Vec<u8>, String> {
+    let plan = import::import(text);
+    let plan = plan.map_err(|(number, line)| format!("import {number} {line}"))?;
+    Ok(plan.to_bytes())
 }

@@ -5,6 +5,7 @@ pub mod board;
 pub mod by_value;
 pub mod desk;
 pub mod event;
+pub mod import;
 pub mod plan;
 pub mod plan_test;
 pub mod probe;

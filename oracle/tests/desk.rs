@@ -55,7 +55,8 @@ fn words() {
     ] {
         assert_eq!(of(&["day", word]), Some(Verb::Day(number)));
     }
-    let none: [&[&str]; 21] = [
+    assert_eq!(of(&["import"]), Some(Verb::Import));
+    let none: [&[&str]; 23] = [
         &[],
         &[""],
         &["Test"],
@@ -63,6 +64,8 @@ fn words() {
         &["test", "0"],
         &["test", ""],
         &["worst", "worst"],
+        &["import", "sheet.csv"],
+        &["imports"],
         &["day"],
         &["0", "day"],
         &["day", ""],
@@ -83,7 +86,7 @@ fn words() {
         assert_eq!(of(words), None);
         let (errors, status) = refused(words, &file);
         assert_eq!((errors.lines().count(), status), (1, 2), "{words:?}");
-        for verb in ["test", "worst", "day"] {
+        for verb in ["test", "worst", "day", "import"] {
             assert!(errors.contains(verb) && errors.ends_with('\n'));
         }
     }
@@ -131,4 +134,28 @@ fn the_day() {
     let wide = plan(2, &[link(0, 1, 4_097, 1)]).to_bytes();
     assert_eq!(refused(&["day", "9"], &wide), said("day 13\n", 1));
     assert_eq!(refused(&["day", "9"], &[7; 32]), said("plan 4 0\n", 1));
+}
+
+#[test]
+fn the_import() {
+    let import = |text: &[u8]| desk(&["import"], text);
+    let mut records = records(2, &[ordinary(1, -7, 0)]);
+    records[1].code = (26 * 10 + 3) * 10_000 + 1_706;
+    let text = b"point,0,,,,\r\npoint,1,,,,\"KD1705\"\r\nordinary,1,0,-7,,\r\n";
+    assert_eq!(import(text), (bytes(&records), String::new(), 0));
+    let refused = |text: &[u8]| refused(&["import"], text);
+    assert_eq!(refused(b""), said("import 1 0\n", 1));
+    assert_eq!(refused(&text[1..]), said("import 42 0\n", 1));
+    assert_eq!(
+        refused(b"point,0,,,,\r\npoint,1,,,,Nov-26"),
+        said("import 43 1\n", 1)
+    );
+    assert_eq!(
+        refused(b"point,0,,,,\r\npoint,2,,,,"),
+        said("import 8 1\n", 1)
+    );
+    assert_eq!(
+        refused(&b"point,0,,,,\r\n".repeat(1_129)),
+        said("import 3 0\n", 1)
+    );
 }

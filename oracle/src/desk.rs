@@ -1,5 +1,6 @@
 //! The program `desk`: a verb and its words, standard input to standard output.
 
+use crate::close;
 use crate::import;
 use crate::plan::{self, Plan};
 use crate::text::{self, MARK};
@@ -20,10 +21,11 @@ pub enum Verb {
     Worst,
     Day(u32),
     Import,
+    Close,
 }
 
 /// The line about wrong usage.
-const USAGE: &str = "usage: oracle-desk test | worst | day PROJECTION | import";
+const USAGE: &str = "usage: oracle-desk test | worst | day PROJECTION | import | close";
 
 impl Verb {
     /// None where there is no such verb, or the words are not its words.
@@ -33,6 +35,7 @@ impl Verb {
             ["worst"] => Some(Verb::Worst),
             ["day", projection] => number(projection).map(Verb::Day),
             ["import"] => Some(Verb::Import),
+            ["close"] => Some(Verb::Close),
             _ => None,
         }
     }
@@ -44,6 +47,7 @@ impl Verb {
             Verb::Worst => lines(worst(input)),
             Verb::Day(projection) => file(day(input, projection)),
             Verb::Import => file(import(input)),
+            Verb::Close => file(close(input)),
         }
     }
 }
@@ -122,4 +126,11 @@ fn import(text: &[u8]) -> Result<Vec<u8>, String> {
     let plan = import::import(text);
     let plan = plan.map_err(|(number, line)| format!("import {number} {line}"))?;
     Ok(plan.to_bytes())
+}
+
+/// The file of the made plan.
+fn close(file: &[u8]) -> Result<Vec<u8>, String> {
+    let made = close::close(&plan(file)?);
+    let made = made.map_err(|number| format!("close {number}"))?;
+    Ok(made.to_bytes())
 }

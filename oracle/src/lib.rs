@@ -3,6 +3,7 @@
 
 pub mod board;
 pub mod by_value;
+pub mod close;
 pub mod desk;
 pub mod event;
 pub mod import;

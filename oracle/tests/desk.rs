@@ -56,7 +56,8 @@ fn words() {
         assert_eq!(of(&["day", word]), Some(Verb::Day(number)));
     }
     assert_eq!(of(&["import"]), Some(Verb::Import));
-    let none: [&[&str]; 23] = [
+    assert_eq!(of(&["close"]), Some(Verb::Close));
+    let none: [&[&str]; 24] = [
         &[],
         &[""],
         &["Test"],
@@ -66,6 +67,7 @@ fn words() {
         &["worst", "worst"],
         &["import", "sheet.csv"],
         &["imports"],
+        &["close", "0"],
         &["day"],
         &["0", "day"],
         &["day", ""],
@@ -86,7 +88,7 @@ fn words() {
         assert_eq!(of(words), None);
         let (errors, status) = refused(words, &file);
         assert_eq!((errors.lines().count(), status), (1, 2), "{words:?}");
-        for verb in ["test", "worst", "day", "import"] {
+        for verb in ["test", "worst", "day", "import", "close"] {
             assert!(errors.contains(verb) && errors.ends_with('\n'));
         }
     }
@@ -158,4 +160,19 @@ fn the_import() {
         refused(&b"point,0,,,,\r\n".repeat(1_129)),
         said("import 3 0\n", 1)
     );
+}
+
+#[test]
+fn the_made_plan() {
+    let file = |rest: &[_]| bytes(&records(3, rest));
+    let typed = file(&[ordinary(2, -3, 1), ordinary(1, -4, 0)]);
+    let made = file(&[ordinary(1, -4, 0), ordinary(2, -7, 0), ordinary(2, -3, 1)]);
+    assert_eq!(desk(&["close"], &typed), (made, String::new(), 0));
+    let close = |input: &[u8]| refused(&["close"], input);
+    assert_eq!(close(&haul().to_bytes()), said("close 61\n", 1));
+    let cycle = file(&[ordinary(0, 3, 1), ordinary(1, -4, 0)]);
+    assert_eq!(close(&cycle), said("close 62\n", 1));
+    let far = file(&[ordinary(0, 100_000, 1), ordinary(1, 1, 2)]);
+    assert_eq!(close(&far), said("close 63\n", 1));
+    assert_eq!(close(&far[16..]), said("plan 8 0\n", 1));
 }

@@ -3,11 +3,14 @@
 mod common;
 
 use common::*;
+use oracle::board::{is_running, reply, Board, Outcome, Place};
 use oracle::desk::{Said, Verb};
+use oracle::event::take;
 use oracle::plan::Plan;
 use oracle::plan_test::{distances, edges, plan_test, Answer, Odometer};
 use oracle::text::sheet;
-use oracle::worst::{day, run, worst, Worst};
+use oracle::verdict::{verdict, Verdict};
+use oracle::worst::{day, run, worst, Run, Worst};
 
 /// What `desk worst` prints of a plan file, which is a refusal where there is one number.
 fn worst_line(file: &[u8]) -> String {
@@ -46,6 +49,42 @@ fn said(events: &[[u8; 16]]) -> Vec<(u32, u8, u32)> {
     };
     let one = |event| (word(event, 0), event[4], word(event, 8));
     events.iter().map(one).collect()
+}
+
+/// Each event of a run is taken, and is the one that the reply to its board asks for; the last board is finished and kept.
+fn taken(plan: &Plan, durations: &[i64], run: &Run) {
+    let mut at = Board::fresh();
+    for (event, (minute, foreman, set)) in run.events.iter().zip(said(&run.events)) {
+        let reply = reply(plan, &at).unwrap();
+        let offered = (0..)
+            .zip(reply.places)
+            .filter_map(|(point, place)| match place {
+                Place::Offered(low) => Some((low, point)),
+                _ => None,
+            });
+        let aim = offered.min();
+        let links = plan.links.iter().zip(durations);
+        let running = links.filter(|(link, _)| is_running(&at, link));
+        let falls: Vec<(i64, usize)> = running
+            .map(|(link, p)| (at.minute(link.a) + p, link.c))
+            .collect();
+        let next = falls.iter().min().map(|fall| fall.0);
+        let due = match (reply.outcome, aim, next) {
+            (Outcome::Offers, Some((low, point)), next) if next.is_none_or(|next| low <= next) => {
+                (low, point)
+            }
+            (Outcome::Offers | Outcome::Waiting, _, Some(next)) => (next, NONE),
+            other => panic!("{other:?}"),
+        };
+        assert_eq!((i64::from(minute), foreman), due);
+        let now = falls.iter().filter(|fall| fall.0 == due.0);
+        assert_eq!(set, now.fold(0, |set, fall| set | 1 << fall.1));
+        let (number, after) = take(plan, &at, event);
+        assert_eq!(number, 0);
+        at = after;
+    }
+    assert_eq!(at, run.last);
+    assert_eq!(verdict(plan, &at), Ok(Verdict::Kept));
 }
 
 fn passes(plan: &Plan) -> bool {
@@ -201,6 +240,7 @@ fn runs_end_with_the_longest_chain() {
             let run = run(&plan, &durations).expect("it passes");
             assert_eq!(i64::from(run.last.clock), -least);
             assert!(run.events.len() <= plan.points());
+            taken(&plan, &durations, &run);
             if -least > most.0 || number == 0 {
                 most = (-least, number);
             }

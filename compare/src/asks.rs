@@ -102,6 +102,8 @@ fn wrong_usage(draw: &mut Draw, verb: &str) -> Vec<Ask> {
             "99999999999999999999999999",
             "00004294967296",
             "\u{0661}",
+            "1\n",
+            "\n1",
         ];
         all.push(vec![verb]);
         all.push(vec![verb, "4294967296"]);
@@ -224,7 +226,9 @@ fn about_plans(draw: &mut Draw, verb: &str, kind: usize, tour: u64) -> Vec<Ask> 
         2 => {
             let mut small = Sizes::small(draw);
             small.points += 3;
-            plans.push(("the haul or close to it", plans::haul(draw)));
+            // Its worst minute is 60, which is no refusal.
+            plans.push(("the haul", plans::haul_as_it_stands()));
+            plans.push(("close to the haul", plans::haul(draw)));
             plans.push(("a long drive", plans::far_haul(draw)));
             plans.push(("a plan that passes", plans::passing(draw)));
             plans.push(("a larger one that passes", plans::passing_larger(draw)));
@@ -265,6 +269,16 @@ fn about_plans(draw: &mut Draw, verb: &str, kind: usize, tour: u64) -> Vec<Ask> 
             sizes.ordinary = sizes.ordinary.min(60);
             plans.push(("no links", plans::layered(draw, sizes, false)));
             plans.push(("a chain of long steps", plans::chain(draw)));
+            // A minute that is a number of a refusal elsewhere.
+            let (x, d, y) = (1, draw.pick(&[-13, -60]), 0);
+            plans.push((
+                "one step",
+                Plan {
+                    ponds: vec![0; 2],
+                    ordinary: vec![Ordinary { x, d, y }],
+                    ..Plan::default()
+                },
+            ));
         }
         6 => {
             let mut sizes = Sizes::any(draw);

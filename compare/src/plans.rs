@@ -625,7 +625,7 @@ mod tests {
     #[test]
     fn stars_read_back_and_pass() {
         let (mut full, mut late) = (0, 0);
-        for batch in 0..200 {
+        for batch in 0..64 {
             let draw = &mut Draw::new(4, batch);
             let sizes = if batch % 8 == 0 {
                 FULL
@@ -644,7 +644,7 @@ mod tests {
                 Ok(Answer::Cycle(1..))
             ));
         }
-        assert!(full > 20 && late > 20, "{full} {late}");
+        assert!(full > 7 && late > 7, "{full} {late}");
     }
 
     #[test]

@@ -217,20 +217,73 @@ fn the_order_of_a_run() {
     );
 }
 
+/// Two trucks in a chain (document 02): the second drive, 1 to 2, begins with the arrival of the first, 0 to 1. Point 3 is aimed
+/// at 5 after 0 and point 4 at 2 after 1, the arrival.
+#[test]
+fn an_arrival_starts_the_next_drive() {
+    let rest = [
+        link(0, 3, 6, 1),
+        link(1, 1, 2, 2),
+        ordinary(3, -5, 0),
+        ordinary(4, -2, 1),
+    ];
+    let plan = plan(5, &rest);
+    assert!(passes(&plan));
+    let (one, two) = (1 << 1, 1 << 2);
+    let of = |durations: [i64; 2]| said(&run(&plan, &durations).unwrap().events);
+    // The arrival at 3 comes before the aim, and the second drive ends before the next: 4 is aimed at 5, as 3 is.
+    assert_eq!(
+        of([3, 1]),
+        [
+            (0, 0, 0),
+            (3, NONE, one),
+            (4, NONE, two),
+            (5, 3, 0),
+            (5, 4, 0)
+        ]
+    );
+    // The second drive ends on the aim.
+    assert_eq!(
+        of([3, 2]),
+        [(0, 0, 0), (3, NONE, one), (5, 3, two), (5, 4, 0)]
+    );
+    // The arrival falls on the aim: the second drive starts in that event, and does not end in it.
+    assert_eq!(
+        of([5, 1]),
+        [(0, 0, 0), (5, 3, one), (6, NONE, two), (7, 4, 0)]
+    );
+    // The arrival comes past the first aim, and the board waits for it.
+    assert_eq!(
+        of([6, 2]),
+        [(0, 0, 0), (5, 3, 0), (6, NONE, one), (8, 4, two)]
+    );
+    assert_eq!(worst_line(&plan.to_bytes()), "worst 8 6");
+    // Without the foreman's points after it the drives alone: 3 to 6, and then 1 to 2.
+    let alone = common::plan(3, &rest[..2]);
+    assert_eq!(worst_line(&alone.to_bytes()), "worst 8 7");
+    let ring = common::plan(3, &[link(0, 1, 2, 1), link(1, 1, 2, 0)]);
+    assert_eq!(worst_line(&ring.to_bytes()), "worst 60");
+    assert_eq!(day_bytes(&ring.to_bytes(), 0), Err("day 60".to_string()));
+}
+
 /// Another way to the same number: no choice of minutes that keeps a projection ends sooner than its longest chain of steps
 /// back, and on a plan that passes each point comes at the first minute that its own chains leave. So the finishing minute is
 /// the negated least distance between any two points.
 #[test]
 fn runs_end_with_the_longest_chain() {
     let mut random = Random::new(13);
-    let (mut plans, mut runs, mut waits, mut longest) = (0, 0, 0, 0);
+    let (mut plans, mut runs, mut waits, mut longest, mut chains) = (0, 0, 0, 0, 0);
     while plans < 2_000 {
         let bound = random.between(1, 9);
-        let plan = random_plan(&mut random, bound);
+        let plan = match plans % 2 {
+            0 => random_plan(&mut random, bound),
+            _ => chained_plan(&mut random, bound),
+        };
         if !passes(&plan) {
             continue;
         }
         plans += 1;
+        chains += usize::from(chained(&plan));
         waits += usize::from(!plan.waits.is_empty());
         let mut most = (0, 0);
         for (number, durations) in Odometer::new(&plan).enumerate() {
@@ -251,7 +304,7 @@ fn runs_end_with_the_longest_chain() {
         longest += usize::from(most.1 > 0);
     }
     assert!(
-        runs > 1_000 && waits > 50 && longest > 100,
-        "{runs} {waits} {longest}"
+        runs > 1_000 && waits > 50 && longest > 100 && chains > 900,
+        "{runs} {waits} {longest} {chains}"
     );
 }

@@ -166,6 +166,11 @@ impl Count {
         }
     }
 
+    /// All that came up.
+    pub fn keys(&self) -> impl Iterator<Item = &String> {
+        self.seen.keys()
+    }
+
     pub fn of(&self, key: &str) -> u64 {
         self.seen.get(key).copied().unwrap_or(0)
     }

@@ -204,7 +204,7 @@ fn stuck_plans(draw: &mut Draw) -> Vec<Input> {
 }
 
 /// A small plan with something of every kind, most of the time.
-fn small_good(draw: &mut Draw) -> Plan {
+pub fn small_good(draw: &mut Draw) -> Plan {
     match draw.below(3) {
         0 => plans::haul(draw),
         1 => plans::passing(draw),

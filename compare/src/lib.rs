@@ -1,7 +1,9 @@
 //! What the comparison and the games share: drawing of plans, events and whole inputs, running of programs, counting.
 
+pub mod asks;
 pub mod count;
 pub mod damage;
+pub mod desk;
 pub mod draw;
 pub mod events;
 pub mod inputs;
@@ -12,3 +14,4 @@ pub mod programs;
 pub mod requests;
 pub mod sheets;
 pub mod smaller;
+pub mod texts;

@@ -237,7 +237,7 @@ fn tell(both: &Both, seed: u64, found: &Found) -> io::Result<()> {
         println!("no difference when it is read from a file");
         *way
     };
-    let small = smaller::smaller(both, way, &input.bytes)?;
+    let small = smaller::smaller(&|new| both.differ(new, way), &input.bytes)?;
     std::fs::write(Path::new(&file), &small)?;
     println!(
         "made smaller, from {} bytes to {}: {file}",

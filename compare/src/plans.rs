@@ -407,6 +407,102 @@ pub fn layered(draw: &mut Draw, sizes: Sizes, many: bool) -> Plan {
     plan
 }
 
+/// A plan that passes the test by its form and joins every pair of points, so that it can have an ordinary record for each
+/// pair: with the sizes of `FULL` it is full. Each foreman's point comes within a window after one of them, the first, and
+/// each end hangs on its A: so a shortest path goes back to the first point and then forth. The other records and the waits
+/// say no more than that in any projection.
+pub fn star(draw: &mut Draw, sizes: Sizes, many: bool) -> Plan {
+    let links = sizes.links.min(sizes.points / 2);
+    let mut spans = spans(draw, links, many);
+    spans.truncate(sizes.points / 2);
+    let scale = draw.pick(&[2, 5, 20, 100, 9_000]);
+    let mut order: Vec<usize> = (0..sizes.points).collect();
+    draw.shuffle(&mut order);
+    let (ends, others) = order.split_at(spans.len());
+    let first = others[0];
+    // Links start soon, so that there is something to wait for later.
+    let starts = &others[..others.len().div_ceil(2)];
+    let mut plan = Plan::default();
+    for _ in 0..sizes.points {
+        plan.ponds.push(draw.next() as u32);
+    }
+    for (&c, span) in ends.iter().zip(spans) {
+        let x = draw.edgy(1, scale);
+        let a = draw.pick(starts);
+        let y = x + span - 1;
+        plan.links.push(Link { a, x, y, c });
+    }
+    // How far back to the first point, and how far forth from it, at most in any projection.
+    let (mut back, mut forth) = (vec![0; sizes.points], vec![0; sizes.points]);
+    for &v in &others[1..] {
+        let late = if starts.contains(&v) { 0 } else { scale };
+        let low = draw.edgy(late, late + scale);
+        back[v] = -low;
+        forth[v] = draw.edgy(low, low + scale);
+    }
+    for link in &plan.links {
+        back[link.c] = back[link.a] - link.x;
+        forth[link.c] = forth[link.a] + link.y;
+    }
+    let most = |x: usize, y: usize| match (plan.link_to(x), plan.link_to(y)) {
+        (Some(one), _) if one.a == y => -one.x,
+        (_, Some(two)) if two.a == x => two.y,
+        (Some(one), Some(two)) if one.a == two.a => two.y - one.x,
+        _ => back[x] + forth[y],
+    };
+    let (must, may): (Vec<_>, Vec<_>) =
+        pairs(draw, sizes.points).into_iter().partition(|&(x, y)| {
+            (x == first || y == first) && !ends.contains(&x) && !ends.contains(&y)
+        });
+    let more = sizes.ordinary.saturating_sub(must.len());
+    let mut ordinary = Vec::new();
+    for (x, y) in must {
+        let d = most(x, y);
+        ordinary.push(Ordinary { x, d, y });
+    }
+    for (x, y) in may.into_iter().take(more) {
+        let d = (most(x, y) + draw.edgy(0, scale)).min(BOUND);
+        ordinary.push(Ordinary { x, d, y });
+    }
+    draw.shuffle(&mut ordinary);
+    plan.ordinary = ordinary;
+    // A wait that no projection needs: V comes that much later than A anyway.
+    let all = others
+        .iter()
+        .flat_map(|&v| plan.links.iter().map(move |link| (v, link)));
+    let all = all.map(|(v, link)| (v, link.c, (-back[v] - forth[link.a]).min(link.y)));
+    let all: Vec<_> = all.filter(|&(_, _, most)| most > 0).collect();
+    if !all.is_empty() {
+        for _ in 0..sizes.waits {
+            let (v, c, most) = draw.pick(&all);
+            let w = draw.edgy(1, most);
+            plan.waits.push(Wait { v, c, w });
+        }
+    }
+    plan
+}
+
+/// A plan whose test finds a cycle, most often past the first projection: an end has to come sooner than its link may take.
+pub fn late_cycle(draw: &mut Draw) -> Plan {
+    loop {
+        let mut plan = if draw.one_in(2) {
+            haul_as_it_stands()
+        } else {
+            passing(draw)
+        };
+        if plan.links.is_empty() {
+            continue;
+        }
+        let link = draw.pick(&plan.links);
+        let d = draw.edgy(link.x, link.y - 1);
+        if record_on(&mut plan, link.a, link.c).is_none() {
+            let (x, y) = (link.a, link.c);
+            plan.ordinary.push(Ordinary { x, d, y });
+            return plan;
+        }
+    }
+}
+
 /// A plan that passes the test, of any of the forms above, most with links and waits.
 pub fn that_passes(draw: &mut Draw) -> Plan {
     loop {
@@ -524,6 +620,31 @@ mod tests {
                 assert_eq!(oracle::plan::read(&plan.to_bytes()), Ok(plan));
             }
         }
+    }
+
+    #[test]
+    fn stars_read_back_and_pass() {
+        let (mut full, mut late) = (0, 0);
+        for batch in 0..64 {
+            let draw = &mut Draw::new(4, batch);
+            let sizes = if batch % 8 == 0 {
+                FULL
+            } else {
+                Sizes::any(draw)
+            };
+            let plan = star(draw, sizes, false);
+            assert_eq!(oracle::plan::read(&plan.to_bytes()), Ok(plan.clone()));
+            let answer = plan_test::plan_test(&plan);
+            assert!(matches!(answer, Ok(Answer::Yes(_))), "{answer:?}");
+            full += usize::from(plan.records() == FULL.records());
+            let plan = late_cycle(draw);
+            assert_eq!(oracle::plan::read(&plan.to_bytes()), Ok(plan.clone()));
+            late += usize::from(matches!(
+                plan_test::plan_test(&plan),
+                Ok(Answer::Cycle(1..))
+            ));
+        }
+        assert!(full > 7 && late > 7, "{full} {late}");
     }
 
     #[test]

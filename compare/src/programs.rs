@@ -2,6 +2,7 @@
 
 use std::fs::File;
 use std::io::{self, Read, Write};
+use std::os::unix::process::CommandExt;
 use std::path::{Path, PathBuf};
 use std::process::{Child, ChildStdout, Command, Stdio};
 use std::sync::{Arc, Mutex};
@@ -23,9 +24,11 @@ pub enum Way {
 }
 
 /// What a program printed and how it ended.
-#[derive(Clone, PartialEq, Eq)]
+#[derive(Clone, PartialEq, Eq, Debug)]
 pub struct Shown {
     pub bytes: Vec<u8>,
+    /// Standard error, where it is looked at.
+    pub errors: Vec<u8>,
     pub ended: String,
 }
 
@@ -41,17 +44,31 @@ pub struct Both {
     pub scratch: PathBuf,
 }
 
-/// The programs that run, and since when.
-static RUNNING: Mutex<Vec<(Instant, Arc<Mutex<Child>>)>> = Mutex::new(Vec::new());
+/// A program that runs, and since when.
+struct Running {
+    since: Instant,
+    child: Arc<Mutex<Child>>,
+    /// Its process group, which has what it started in turn, where it has one of its own.
+    group: Option<u32>,
+}
+
+static RUNNING: Mutex<Vec<Running>> = Mutex::new(Vec::new());
 
 /// Starts the thread that stops programs which do not end.
 pub fn watch() {
     thread::spawn(|| loop {
         thread::sleep(Duration::from_secs(1));
-        for (since, child) in RUNNING.lock().expect("no thread fails with it").iter() {
-            if since.elapsed() > PATIENCE {
+        for one in RUNNING.lock().expect("no thread fails with it").iter() {
+            if one.since.elapsed() > PATIENCE {
                 // It may have ended by now; one whose end is waited for is let be.
-                let _ = child.try_lock().map(|mut child| child.kill());
+                let Ok(mut child) = one.child.try_lock() else {
+                    continue;
+                };
+                if let Some(group) = one.group {
+                    let group = format!("-{group}");
+                    let _ = Command::new("kill").args(["-KILL", "--", &group]).status();
+                }
+                let _ = child.kill();
             }
         }
     });
@@ -60,22 +77,29 @@ pub fn watch() {
 struct Started {
     child: Arc<Mutex<Child>>,
     output: ChildStdout,
+    errors: Option<JoinHandle<io::Result<Vec<u8>>>>,
     writer: Option<JoinHandle<()>>,
+}
+
+/// Is standard error looked at?
+#[derive(Clone, Copy, PartialEq, Eq)]
+enum Errors {
+    Dropped,
+    Kept,
 }
 
 impl Both {
     /// Runs both on the input: ours, then the independent one.
     pub fn run(&self, input: &[u8], way: Way) -> io::Result<(Shown, Shown)> {
-        if way == Way::File {
-            std::fs::write(&self.scratch, input)?;
-        }
         let theirs = std::slice::from_ref(&self.theirs);
-        let started = [
-            start(&self.ours, input, way, &self.scratch)?,
-            start(theirs, input, way, &self.scratch)?,
-        ];
-        let [ours, theirs] = started.map(finish);
-        Ok((ours?, theirs?))
+        run_both(
+            &self.ours,
+            theirs,
+            input,
+            way,
+            &self.scratch,
+            Errors::Dropped,
+        )
     }
 
     /// Do they differ, or does one not end well?
@@ -83,6 +107,37 @@ impl Both {
         let (ours, theirs) = self.run(input, way)?;
         Ok(differ(&ours, &theirs))
     }
+}
+
+/// Runs two programs, each started by these words, on the input: ours, then the independent one, with what they say on
+/// standard error.
+pub fn run_with_errors(
+    ours: &[String],
+    theirs: &[String],
+    input: &[u8],
+    way: Way,
+    scratch: &Path,
+) -> io::Result<(Shown, Shown)> {
+    run_both(ours, theirs, input, way, scratch, Errors::Kept)
+}
+
+fn run_both(
+    ours: &[String],
+    theirs: &[String],
+    input: &[u8],
+    way: Way,
+    scratch: &Path,
+    errors: Errors,
+) -> io::Result<(Shown, Shown)> {
+    if way == Way::File {
+        std::fs::write(scratch, input)?;
+    }
+    let started = [
+        start(ours, input, way, scratch, errors)?,
+        start(theirs, input, way, scratch, errors)?,
+    ];
+    let [ours, theirs] = started.map(finish);
+    Ok((ours?, theirs?))
 }
 
 pub fn differ(ours: &Shown, theirs: &Shown) -> bool {
@@ -94,21 +149,42 @@ pub const ENDED_WELL: &str = "exit status: 0";
 
 /// Runs one program on an input by a pipe.
 pub fn run(words: &[String], input: &[u8]) -> io::Result<Shown> {
-    finish(start(words, input, Way::Pipe, Path::new(""))?)
+    let nowhere = Path::new("");
+    finish(start(words, input, Way::Pipe, nowhere, Errors::Dropped)?)
 }
 
 /// Starts one program; where the input is read from a file, it stands there.
-fn start(words: &[String], input: &[u8], way: Way, file: &Path) -> io::Result<Started> {
+fn start(
+    words: &[String],
+    input: &[u8],
+    way: Way,
+    file: &Path,
+    errors: Errors,
+) -> io::Result<Started> {
     let mut command = Command::new(&words[0]);
     command.args(&words[1..]);
-    command.stdout(Stdio::piped()).stderr(Stdio::null());
+    command.stdout(Stdio::piped()).stderr(match errors {
+        Errors::Dropped => Stdio::null(),
+        Errors::Kept => Stdio::piped(),
+    });
     if way == Way::File {
         command.stdin(File::open(file)?);
     } else {
         command.stdin(Stdio::piped());
     }
+    // A script's own programs hold its outputs open, and have to be stopped with it.
+    if errors == Errors::Kept {
+        command.process_group(0);
+    }
     let mut child = command.spawn()?;
+    let group = (errors == Errors::Kept).then_some(child.id());
     let output = child.stdout.take().expect("it is piped");
+    let errors = child.stderr.take().map(|mut errors| {
+        thread::spawn(move || {
+            let mut bytes = Vec::new();
+            errors.read_to_end(&mut bytes).map(|_| bytes)
+        })
+    });
     let mut writer = None;
     if let Some(mut pipe) = child.stdin.take() {
         // A program may end before it has read everything: what it printed is what counts.
@@ -132,10 +208,15 @@ fn start(words: &[String], input: &[u8], way: Way, file: &Path) -> io::Result<St
     }
     let child = Arc::new(Mutex::new(child));
     let mut running = RUNNING.lock().expect("no thread fails with it");
-    running.push((Instant::now(), child.clone()));
+    running.push(Running {
+        since: Instant::now(),
+        child: child.clone(),
+        group,
+    });
     Ok(Started {
         child,
         output,
+        errors,
         writer,
     })
 }
@@ -149,13 +230,17 @@ fn finish(mut started: Started) -> io::Result<Shown> {
         .expect("no thread fails with it")
         .wait()?;
     let mut running = RUNNING.lock().expect("no thread fails with it");
-    running.retain(|(_, child)| !Arc::ptr_eq(child, &started.child));
+    running.retain(|one| !Arc::ptr_eq(&one.child, &started.child));
     drop(running);
     if let Some(writer) = started.writer {
         writer.join().expect("the writer does not fail");
     }
+    let errors = started
+        .errors
+        .map(|reader| reader.join().expect("the reader does not fail"));
     Ok(Shown {
         bytes,
+        errors: errors.transpose()?.unwrap_or_default(),
         ended: status.to_string(),
     })
 }

@@ -1,7 +1,7 @@
-//! Makes an input on which the programs differ smaller: drops events, then plan records, then turns bytes to 0.
+//! Makes an input on which the programs differ smaller: drops events, then plan records, then turns bytes to 0; of a text
+//! drops lines, then bytes.
 
 use crate::events::MARK;
-use crate::programs::{Both, Way};
 use oracle::plan::RECORD;
 use std::io;
 use std::time::{Duration, Instant};
@@ -9,21 +9,18 @@ use std::time::{Duration, Instant};
 /// Making smaller stops after this long.
 const PATIENCE: Duration = Duration::from_secs(60);
 
+/// Do the programs differ on this input?
+pub type Differ<'a> = &'a dyn Fn(&[u8]) -> io::Result<bool>;
+
 struct Work<'a> {
-    both: &'a Both,
-    way: Way,
+    differ: Differ<'a>,
     until: Instant,
     bytes: Vec<u8>,
 }
 
 /// The smallest input found on which the programs still differ.
-pub fn smaller(both: &Both, way: Way, input: &[u8]) -> io::Result<Vec<u8>> {
-    let mut work = Work {
-        both,
-        way,
-        until: Instant::now() + PATIENCE,
-        bytes: input.to_vec(),
-    };
+pub fn smaller(differ: Differ, input: &[u8]) -> io::Result<Vec<u8>> {
+    let mut work = Work::new(differ, input);
     loop {
         let before = work.bytes.clone();
         work.drop_records(true)?;
@@ -36,10 +33,52 @@ pub fn smaller(both: &Both, way: Way, input: &[u8]) -> io::Result<Vec<u8>> {
     }
 }
 
+/// The smallest text found on which the programs still differ.
+pub fn smaller_text(differ: Differ, text: &[u8]) -> io::Result<Vec<u8>> {
+    let mut work = Work::new(differ, text);
+    loop {
+        let before = work.bytes.clone();
+        work.drop_pieces(|bytes| bytes.split_inclusive(|&byte| byte == b'\n').collect())?;
+        work.drop_pieces(|bytes| bytes.chunks(1).collect())?;
+        if work.bytes == before || Instant::now() > work.until {
+            return Ok(work.bytes);
+        }
+    }
+}
+
 impl Work<'_> {
+    fn new<'a>(differ: Differ<'a>, input: &[u8]) -> Work<'a> {
+        Work {
+            differ,
+            until: Instant::now() + PATIENCE,
+            bytes: input.to_vec(),
+        }
+    }
+
+    /// Drops pieces, many at once and then fewer.
+    fn drop_pieces(&mut self, pieces: impl Fn(&[u8]) -> Vec<&[u8]>) -> io::Result<()> {
+        let mut many = pieces(&self.bytes).len().div_ceil(2);
+        while many > 0 {
+            let mut at = 0;
+            loop {
+                let all = pieces(&self.bytes);
+                if at >= all.len() || Instant::now() > self.until {
+                    break;
+                }
+                let to = all.len().min(at + many);
+                let new = [all[..at].concat(), all[to..].concat()].concat();
+                if !self.try_keep(new)? {
+                    at += many;
+                }
+            }
+            many /= 2;
+        }
+        Ok(())
+    }
+
     /// Keeps the new input if the programs differ on it too.
     fn try_keep(&mut self, new: Vec<u8>) -> io::Result<bool> {
-        let kept = Instant::now() < self.until && self.both.differ(&new, self.way)?;
+        let kept = Instant::now() < self.until && (self.differ)(&new)?;
         if kept {
             self.bytes = new;
         }

@@ -1,9 +1,12 @@
-//! An independent program for the rules of document 01, written from those rules alone, to be
+//! An independent program for the rules of document 01 and the requests of document 02, written from those alone, to be
 //! compared byte for byte with the proved one. All arithmetic is signed, in `i64`.
 
 pub mod board;
 pub mod by_value;
+pub mod close;
+pub mod desk;
 pub mod event;
+pub mod import;
 pub mod plan;
 pub mod plan_test;
 pub mod probe;

@@ -153,8 +153,8 @@ impl Plan {
     }
 
     fn add_link(&mut self, new: Link) -> Result<(), u32> {
-        let clash = |old: &Link| old.a == new.c || old.c == new.c || old.c == new.a;
-        if self.links.iter().any(clash) {
+        // Document 02, the second truck: A may be watched, and C may start links. Only a second end is refused.
+        if self.watched(new.c) {
             return Err(10);
         }
         if !(1 <= new.x && new.x < new.y && new.y <= BOUND) {

@@ -8,7 +8,7 @@ use crate::verdict::{self, Verdict};
 use std::io::{self, ErrorKind, Read, Write};
 
 /// The record that ends the plan part.
-const MARK: [u8; RECORD] = [255; RECORD];
+pub const MARK: [u8; RECORD] = [255; RECORD];
 
 /// The next record; fewer than 16 bytes only at the end of the input.
 fn next_record(input: &mut impl Read) -> io::Result<Vec<u8>> {
@@ -65,7 +65,8 @@ fn run(input: &mut impl Read, output: &mut impl Write, full: bool) -> io::Result
     };
     let mut board = Board::fresh();
     if full {
-        print_test(&plan, output)?;
+        let (Ok(line) | Err(line)) = test_line(&plan);
+        writeln!(output, "{line}")?;
         print_board(&plan, &board, output)?;
     }
     let mut k: u64 = 0;
@@ -104,12 +105,13 @@ fn end(plan: &Plan, board: &Board) -> String {
     }
 }
 
-fn print_test(plan: &Plan, output: &mut impl Write) -> io::Result<()> {
+/// What the plan test says, or refuses to say.
+pub fn test_line(plan: &Plan) -> Result<String, String> {
     match plan_test::plan_test(plan) {
-        Ok(Answer::Yes(count)) => writeln!(output, "test yes {count}"),
-        Ok(Answer::Cycle(p)) => writeln!(output, "test cycle {p}"),
-        Ok(Answer::Pair(p, x, y)) => writeln!(output, "test pair {p} {x} {y}"),
-        Err((number, _)) => writeln!(output, "test {number}"),
+        Ok(Answer::Yes(count)) => Ok(format!("test yes {count}")),
+        Ok(Answer::Cycle(p)) => Ok(format!("test cycle {p}")),
+        Ok(Answer::Pair(p, x, y)) => Ok(format!("test pair {p} {x} {y}")),
+        Err((number, _)) => Err(format!("test {number}")),
     }
 }
 

@@ -1,9 +1,8 @@
 //! The worst finishing minute (document 02): every projection of a plan that passes the test is run from the fresh board by
 //! the rule that the request gives, and the largest finishing minute counts.
 
-use crate::board::{self, Board, Outcome, Place};
-use crate::event;
-use crate::plan::{self, Plan, RECORD};
+use crate::board::{self, Board};
+use crate::plan::{Plan, RECORD};
 use crate::plan_test::{self, Answer, Odometer};
 
 /// A run of one projection: its events, and the board that they finish.
@@ -20,55 +19,67 @@ pub struct Worst {
     pub projection: u32,
 }
 
-/// The run of the projection with these durations, one for each link; none if it sticks or an event is refused, which does
-/// not happen to a plan that passes the test.
+/// The run of the projection with these durations, one for each link; none if it sticks, which does not happen to a plan that
+/// passes the test. Each event is one that is taken; the tests take them.
 pub fn run(plan: &Plan, durations: &[i64]) -> Option<Run> {
     let mut run = Run {
         events: Vec::new(),
         last: Board::fresh(),
     };
-    loop {
-        let at = run.last;
-        let reply = board::reply(plan, &at).ok()?;
+    while !board::all_done(plan, &run.last) {
+        let at = &mut run.last;
         // The watched points to come: when each falls.
         let links = plan.links.iter().zip(durations);
-        let running = links.filter(|(link, _)| board::is_running(&at, link));
+        let running = links.filter(|(link, _)| board::is_running(at, link));
         let falls: Vec<(i64, usize)> = running
             .map(|(link, p)| (at.minute(link.a) + p, link.c))
             .collect();
         let next = falls.iter().map(|&(minute, _)| minute).min();
-        let (minute, foreman) = match reply.outcome {
-            Outcome::Finished => return Some(run),
-            Outcome::Stuck => return None,
-            Outcome::Waiting => (next?, None),
-            Outcome::Offers => {
-                let (low, point) = aim(&reply.places)?;
-                match next {
-                    Some(next) if next < low => (next, None),
-                    _ => (low, Some(point)),
-                }
-            }
+        let (minute, foreman) = match aim(plan, at) {
+            Aim::Stuck => return None,
+            Aim::Nothing => (next?, None),
+            Aim::At(low, point) => match next {
+                Some(next) if next < low => (next, None),
+                _ => (low, Some(point)),
+            },
         };
         let set = falls.iter().filter(|(falls_at, _)| *falls_at == minute);
         let set = set.fold(0, |set, &(_, c)| set | 1 << c);
-        let event = record(minute, foreman, set);
-        let (number, after) = event::take(plan, &at, &event);
-        if number != 0 {
-            return None;
+        run.events.push(record(minute, foreman, set));
+        at.clock = minute as u32;
+        at.done |= set | foreman.map_or(0, |point| 1 << point);
+        for &(_, c) in falls.iter().filter(|(falls_at, _)| *falls_at == minute) {
+            at.minutes[c] = at.clock;
         }
-        run.events.push(event);
-        run.last = after;
+        if let Some(point) = foreman {
+            at.minutes[point] = at.clock;
+        }
     }
+    Some(run)
 }
 
-/// The lowest offered minute, and of the points whose Low that is the lowest number.
-fn aim(places: &[Place]) -> Option<(i64, usize)> {
-    let offered = places.iter().enumerate();
-    let offered = offered.filter_map(|(point, place)| match *place {
-        Place::Offered(low) => Some((low, point)),
-        _ => None,
-    });
-    offered.min()
+/// What is aimed at on a board that is not finished.
+enum Aim {
+    /// The lowest offered minute, and of the points whose Low that is the lowest number.
+    At(i64, usize),
+    /// Nothing is open.
+    Nothing,
+    /// Something is open, and nothing of it is offered.
+    Stuck,
+}
+
+/// Each open point's windows are looked at once: `board::reply` would look at them again and again.
+fn aim(plan: &Plan, at: &Board) -> Aim {
+    let open = board::open_points(plan, at);
+    let lows = open.iter().map(|&v| (board::low(plan, at, v), v));
+    let Some((low, point)) = lows.min() else {
+        return Aim::Nothing;
+    };
+    let highs = open.iter().filter_map(|&v| board::high(plan, at, v));
+    if highs.min().is_some_and(|h| low > h) {
+        return Aim::Stuck;
+    }
+    Aim::At(low, point)
 }
 
 fn record(minute: i64, foreman: Option<usize>, set: u32) -> [u8; RECORD] {
@@ -110,24 +121,4 @@ pub fn day(plan: &Plan, projection: u32) -> Result<Vec<[u8; RECORD]>, u32> {
 
 fn finished(plan: &Plan, durations: &[i64]) -> Run {
     run(plan, durations).expect("a plan that passes the test does not stick")
-}
-
-/// What `oracle-worst` prints of a plan file.
-pub fn worst_line(file: &[u8]) -> String {
-    let plan = match plan::read(file) {
-        Ok(plan) => plan,
-        Err((number, record)) => return format!("plan {number} {record}"),
-    };
-    match worst(&plan) {
-        Ok(Worst { minute, projection }) => format!("worst {minute} {projection}"),
-        Err(number) => format!("worst {number}"),
-    }
-}
-
-/// What `oracle-day` prints of a plan file: the file, the mark and the events, or a line about why not.
-pub fn day_bytes(file: &[u8], projection: u32) -> Result<Vec<u8>, String> {
-    let refused = |(number, record)| format!("plan {number} {record}");
-    let plan = plan::read(file).map_err(refused)?;
-    let events = day(&plan, projection).map_err(|number| format!("day {number}"))?;
-    Ok([file, &[255; RECORD], &events.concat()].concat())
 }

@@ -161,12 +161,21 @@ fn walked_test(plan: &Plan, durations: &mut Vec<i64>, tried: &mut u32) -> Option
     }
 }
 
+/// A random plan, every other one with links that start where others end.
+fn any_plan(random: &mut Random, round: u32) -> Plan {
+    if round % 2 == 0 {
+        random_plan(random, 7)
+    } else {
+        chained_plan(random, 7)
+    }
+}
+
 #[test]
 fn the_plan_test_against_a_walk() {
     let mut random = Random::new(2);
-    let (mut yes, mut late) = (0, 0);
-    for _ in 0..12_000 {
-        let plan = random_plan(&mut random, 7);
+    let (mut yes, mut late, mut chains, mut rings) = (0, 0, 0, 0);
+    for round in 0..12_000 {
+        let plan = any_plan(&mut random, round);
         let mut tried = 0;
         let failed = walked_test(&plan, &mut Vec::new(), &mut tried);
         let expected = failed.unwrap_or(Answer::Yes(tried));
@@ -175,8 +184,18 @@ fn the_plan_test_against_a_walk() {
             Answer::Yes(_) => yes += 1,
             Answer::Cycle(p) | Answer::Pair(p, _, _) => late += u32::from(p > 0),
         }
+        if ringed(&plan) {
+            assert_eq!(expected, Answer::Cycle(0));
+            rings += 1;
+        } else if chained(&plan) {
+            chains += u32::from(matches!(expected, Answer::Yes(_)));
+        }
     }
-    assert!(yes > 500 && late > 100, "{yes} {late}");
+    let counts = (yes, late, chains, rings);
+    assert!(
+        yes > 500 && late > 100 && chains > 100 && rings > 100,
+        "{counts:?}"
+    );
 }
 
 #[test]
@@ -329,8 +348,9 @@ impl Executor<'_> {
 fn events_against_an_executor() {
     let mut random = Random::new(3);
     let mut seen = [0; 31];
-    for _ in 0..20_000 {
-        let plan = random_plan(&mut random, 7);
+    let mut started = 0;
+    for round in 0..20_000 {
+        let plan = any_plan(&mut random, round);
         let mut executor = Executor::new(&plan);
         let mut now = Board::fresh();
         for _ in 0..16 {
@@ -378,20 +398,26 @@ fn events_against_an_executor() {
                     executor.happened(point, minute.into());
                 }
             }
+            // A link whose A ended another in this event runs from now on: it did not before, and has not ended.
+            for link in plan.links.iter().filter(|link| set >> link.a & 1 == 1) {
+                assert!(!is_running(&now, link) && is_running(&next, link));
+                started += 1;
+            }
             now = next;
         }
     }
     for number in [0, 21, 22, 23, 24, 25, 26, 27, 28, 29, 30] {
         assert!(seen[number] > 50, "{number}: {}", seen[number]);
     }
+    assert!(started > 1_000, "{started}");
 }
 
 #[test]
 fn the_reply_against_every_event() {
     let mut random = Random::new(4);
     let (mut offers, mut held) = (0, 0);
-    for _ in 0..3_000 {
-        let plan = random_plan(&mut random, 7);
+    for round in 0..8_000 {
+        let plan = any_plan(&mut random, round);
         let mut now = Board::fresh();
         loop {
             let reply = reply(&plan, &now).unwrap();
@@ -448,19 +474,23 @@ fn the_reply_against_every_event() {
 #[test]
 fn plans_that_pass_never_stick() {
     let mut random = Random::new(5);
-    let (mut passed, mut with_waits) = (0, 0);
-    for _ in 0..40_000 {
-        let plan = random_plan(&mut random, 7);
+    let (mut passed, mut with_waits, mut chains) = (0, 0, 0);
+    for round in 0..40_000 {
+        let plan = any_plan(&mut random, round);
         if !matches!(plan_test(&plan), Ok(Answer::Yes(_))) {
             continue;
         }
         passed += 1;
         with_waits += u32::from(!plan.waits.is_empty());
+        chains += u32::from(chained(&plan));
         for _ in 0..3 {
             one_run(&plan, &mut random);
         }
     }
-    assert!(passed > 4_000 && with_waits > 400, "{passed} {with_waits}");
+    assert!(
+        passed > 4_000 && with_waits > 400 && chains > 1_000,
+        "{passed} {with_waits} {chains}"
+    );
 }
 
 fn one_run(plan: &Plan, random: &mut Random) {

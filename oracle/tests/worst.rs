@@ -3,10 +3,44 @@
 mod common;
 
 use common::*;
+use oracle::board::{is_running, reply, Board, Outcome, Place};
+use oracle::desk::{Said, Verb};
+use oracle::event::take;
 use oracle::plan::Plan;
 use oracle::plan_test::{distances, edges, plan_test, Answer, Odometer};
 use oracle::text::sheet;
-use oracle::worst::{day, day_bytes, run, worst, worst_line, Worst};
+use oracle::verdict::{verdict, Verdict};
+use oracle::worst::{day, run, worst, Run, Worst};
+
+/// What `desk worst` prints of a plan file, which is a refusal where there is one number.
+fn worst_line(file: &[u8]) -> String {
+    let said = Verb::Worst.said(file);
+    let text = String::from_utf8(said.output).unwrap();
+    let line = text.strip_suffix('\n').unwrap();
+    let refused = line.starts_with("plan") || line.split(' ').count() == 2;
+    assert_eq!((said.errors, said.status), (vec![], u8::from(refused)));
+    line.to_string()
+}
+
+/// What `desk day` says of a plan file: standard output, or the line on standard error.
+fn day_bytes(file: &[u8], projection: u32) -> Result<Vec<u8>, String> {
+    match Verb::Day(projection).said(file) {
+        Said {
+            output,
+            errors,
+            status: 0,
+        } if errors.is_empty() => Ok(output),
+        Said {
+            output,
+            errors,
+            status: 1,
+        } if output.is_empty() => {
+            let text = String::from_utf8(errors).unwrap();
+            Err(text.strip_suffix('\n').unwrap().to_string())
+        }
+        other => panic!("{other:?}"),
+    }
+}
 
 /// The events of a run as minute, foreman's point and set.
 fn said(events: &[[u8; 16]]) -> Vec<(u32, u8, u32)> {
@@ -15,6 +49,42 @@ fn said(events: &[[u8; 16]]) -> Vec<(u32, u8, u32)> {
     };
     let one = |event| (word(event, 0), event[4], word(event, 8));
     events.iter().map(one).collect()
+}
+
+/// Each event of a run is taken, and is the one that the reply to its board asks for; the last board is finished and kept.
+fn taken(plan: &Plan, durations: &[i64], run: &Run) {
+    let mut at = Board::fresh();
+    for (event, (minute, foreman, set)) in run.events.iter().zip(said(&run.events)) {
+        let reply = reply(plan, &at).unwrap();
+        let offered = (0..)
+            .zip(reply.places)
+            .filter_map(|(point, place)| match place {
+                Place::Offered(low) => Some((low, point)),
+                _ => None,
+            });
+        let aim = offered.min();
+        let links = plan.links.iter().zip(durations);
+        let running = links.filter(|(link, _)| is_running(&at, link));
+        let falls: Vec<(i64, usize)> = running
+            .map(|(link, p)| (at.minute(link.a) + p, link.c))
+            .collect();
+        let next = falls.iter().min().map(|fall| fall.0);
+        let due = match (reply.outcome, aim, next) {
+            (Outcome::Offers, Some((low, point)), next) if next.is_none_or(|next| low <= next) => {
+                (low, point)
+            }
+            (Outcome::Offers | Outcome::Waiting, _, Some(next)) => (next, NONE),
+            other => panic!("{other:?}"),
+        };
+        assert_eq!((i64::from(minute), foreman), due);
+        let now = falls.iter().filter(|fall| fall.0 == due.0);
+        assert_eq!(set, now.fold(0, |set, fall| set | 1 << fall.1));
+        let (number, after) = take(plan, &at, event);
+        assert_eq!(number, 0);
+        at = after;
+    }
+    assert_eq!(at, run.last);
+    assert_eq!(verdict(plan, &at), Ok(Verdict::Kept));
 }
 
 fn passes(plan: &Plan) -> bool {
@@ -51,7 +121,7 @@ fn the_haul_by_hand() {
     assert_eq!(day_bytes(&file, 31), Ok([&file[..], &[255; 16]].concat()));
 }
 
-/// What `oracle-day` prints is what `sheet` reads.
+/// What `desk day` prints is what `sheet` reads.
 #[test]
 fn a_day_as_a_sheet() {
     let input = day_bytes(&haul().to_bytes(), 15).unwrap();
@@ -147,20 +217,73 @@ fn the_order_of_a_run() {
     );
 }
 
+/// Two trucks in a chain (document 02): the second drive, 1 to 2, begins with the arrival of the first, 0 to 1. Point 3 is aimed
+/// at 5 after 0 and point 4 at 2 after 1, the arrival.
+#[test]
+fn an_arrival_starts_the_next_drive() {
+    let rest = [
+        link(0, 3, 6, 1),
+        link(1, 1, 2, 2),
+        ordinary(3, -5, 0),
+        ordinary(4, -2, 1),
+    ];
+    let plan = plan(5, &rest);
+    assert!(passes(&plan));
+    let (one, two) = (1 << 1, 1 << 2);
+    let of = |durations: [i64; 2]| said(&run(&plan, &durations).unwrap().events);
+    // The arrival at 3 comes before the aim, and the second drive ends before the next: 4 is aimed at 5, as 3 is.
+    assert_eq!(
+        of([3, 1]),
+        [
+            (0, 0, 0),
+            (3, NONE, one),
+            (4, NONE, two),
+            (5, 3, 0),
+            (5, 4, 0)
+        ]
+    );
+    // The second drive ends on the aim.
+    assert_eq!(
+        of([3, 2]),
+        [(0, 0, 0), (3, NONE, one), (5, 3, two), (5, 4, 0)]
+    );
+    // The arrival falls on the aim: the second drive starts in that event, and does not end in it.
+    assert_eq!(
+        of([5, 1]),
+        [(0, 0, 0), (5, 3, one), (6, NONE, two), (7, 4, 0)]
+    );
+    // The arrival comes past the first aim, and the board waits for it.
+    assert_eq!(
+        of([6, 2]),
+        [(0, 0, 0), (5, 3, 0), (6, NONE, one), (8, 4, two)]
+    );
+    assert_eq!(worst_line(&plan.to_bytes()), "worst 8 6");
+    // Without the foreman's points after it the drives alone: 3 to 6, and then 1 to 2.
+    let alone = common::plan(3, &rest[..2]);
+    assert_eq!(worst_line(&alone.to_bytes()), "worst 8 7");
+    let ring = common::plan(3, &[link(0, 1, 2, 1), link(1, 1, 2, 0)]);
+    assert_eq!(worst_line(&ring.to_bytes()), "worst 60");
+    assert_eq!(day_bytes(&ring.to_bytes(), 0), Err("day 60".to_string()));
+}
+
 /// Another way to the same number: no choice of minutes that keeps a projection ends sooner than its longest chain of steps
 /// back, and on a plan that passes each point comes at the first minute that its own chains leave. So the finishing minute is
 /// the negated least distance between any two points.
 #[test]
 fn runs_end_with_the_longest_chain() {
     let mut random = Random::new(13);
-    let (mut plans, mut runs, mut waits, mut longest) = (0, 0, 0, 0);
+    let (mut plans, mut runs, mut waits, mut longest, mut chains) = (0, 0, 0, 0, 0);
     while plans < 2_000 {
         let bound = random.between(1, 9);
-        let plan = random_plan(&mut random, bound);
+        let plan = match plans % 2 {
+            0 => random_plan(&mut random, bound),
+            _ => chained_plan(&mut random, bound),
+        };
         if !passes(&plan) {
             continue;
         }
         plans += 1;
+        chains += usize::from(chained(&plan));
         waits += usize::from(!plan.waits.is_empty());
         let mut most = (0, 0);
         for (number, durations) in Odometer::new(&plan).enumerate() {
@@ -170,6 +293,7 @@ fn runs_end_with_the_longest_chain() {
             let run = run(&plan, &durations).expect("it passes");
             assert_eq!(i64::from(run.last.clock), -least);
             assert!(run.events.len() <= plan.points());
+            taken(&plan, &durations, &run);
             if -least > most.0 || number == 0 {
                 most = (-least, number);
             }
@@ -180,7 +304,7 @@ fn runs_end_with_the_longest_chain() {
         longest += usize::from(most.1 > 0);
     }
     assert!(
-        runs > 1_000 && waits > 50 && longest > 100,
-        "{runs} {waits} {longest}"
+        runs > 1_000 && waits > 50 && longest > 100 && chains > 900,
+        "{runs} {waits} {longest} {chains}"
     );
 }

@@ -162,18 +162,44 @@ impl Random {
 /// A small random plan: records that reading refuses are left out. `bound` is the largest d.
 pub fn random_plan(random: &mut Random, bound: i32) -> Plan {
     let points = random.between(2, 5) as usize;
-    let mut all = records(points as u8, &[]);
     let mut links = Vec::new();
     for _ in 0..random.below(4) {
-        let x = random.between(1, 3);
-        let y = x + random.between(1, 3);
-        links.push(link(
-            random.below(points) as u8,
-            x,
-            y,
-            random.below(points) as u8,
-        ));
+        let (a, c) = (random.below(points) as u8, random.below(points) as u8);
+        links.push(short_link(random, a, c));
     }
+    with_links(random, points, links, bound)
+}
+
+/// The same, with two links or three of which at least one starts where another ends, and no ring.
+pub fn chained_plan(random: &mut Random, bound: i32) -> Plan {
+    let points = random.between(3, 5) as usize;
+    let mut order: Vec<u8> = (0..points as u8).collect();
+    for place in (1..points).rev() {
+        order.swap(place, random.below(place + 1));
+    }
+    // The second starts at the end of the first, a third anywhere before its own end.
+    let mut links = vec![
+        short_link(random, order[0], order[1]),
+        short_link(random, order[1], order[2]),
+    ];
+    if points > 3 && random.below(2) == 0 {
+        let a = order[random.below(3)];
+        links.push(short_link(random, a, order[3]));
+    }
+    // In any order in the file.
+    let first = random.below(links.len());
+    links.swap(0, first);
+    with_links(random, points, links, bound)
+}
+
+fn short_link(random: &mut Random, a: u8, c: u8) -> RawRecord {
+    let x = random.between(1, 3);
+    link(a, x, x + random.between(1, 3), c)
+}
+
+/// With these links, ordinary records and waits: what reading refuses is left out.
+fn with_links(random: &mut Random, points: usize, links: Vec<RawRecord>, bound: i32) -> Plan {
+    let mut all = records(points as u8, &[]);
     let mut others = Vec::new();
     for _ in 0..random.below(9) {
         let (x, y) = (random.below(points) as u8, random.below(points) as u8);
@@ -190,4 +216,24 @@ pub fn random_plan(random: &mut Random, bound: i32) -> Plan {
         }
     }
     read(&bytes(&all)).unwrap()
+}
+
+/// Does a link of the plan start where another ends?
+pub fn chained(plan: &Plan) -> bool {
+    plan.links.iter().any(|link| plan.watched(link.a))
+}
+
+/// Do links start one another in a ring? Going back from A to A as many times as there are links ends at a foreman's point,
+/// unless there is one.
+pub fn ringed(plan: &Plan) -> bool {
+    plan.links.iter().any(|link| {
+        let mut a = link.a;
+        for _ in 0..plan.links.len() {
+            match plan.link_to(a) {
+                Some(before) => a = before.a,
+                None => return false,
+            }
+        }
+        true
+    })
 }

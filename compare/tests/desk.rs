@@ -1,0 +1,885 @@
+//! The comparison of `desk`: two that are the same agree, and everything comes up; each of some wrong ones is found.
+
+use compare::asks::{self, Ask};
+use compare::desk::{self, Compared, Limits};
+use compare::programs::{self, Shown, Way};
+use compare::smaller;
+use oracle::board::{self, Board, Outcome, Place};
+use oracle::desk::{wrong_usage, Said, Verb};
+use oracle::event;
+use oracle::import::{fields, import, lines};
+use oracle::plan::{self, Ordinary, Plan, BOUND, OLD_ORDINARIES};
+use oracle::plan_test::{self, Answer, Fault, Odometer};
+use oracle::worst::{self, Worst};
+use oracle::{close, Refusal};
+use std::cell::RefCell;
+use std::path::Path;
+use std::time::Duration;
+
+/// What the independent program says, without starting it.
+fn right(ask: &Ask) -> Said {
+    let words: Vec<&str> = ask.words.iter().map(String::as_str).collect();
+    match Verb::of(&words) {
+        Some(verb) => verb.said(&ask.input),
+        None => wrong_usage(),
+    }
+}
+
+fn shown(said: Said) -> Shown {
+    Shown {
+        bytes: said.output,
+        errors: said.errors,
+        ended: format!("exit status: {}", said.status),
+    }
+}
+
+/// As long as so many tours take.
+fn limits(verbs: &[&str], tours: u64) -> Limits {
+    let long = Duration::from_secs(600);
+    Limits {
+        least: long,
+        most: long,
+        batches: tours * asks::tour(verbs),
+    }
+}
+
+/// In two tours everything comes up, whatever the seed, and nothing that cannot.
+#[test]
+fn the_same_agree_and_all_comes_up() {
+    let all_comes_up = |verbs: &[&str], seed: u64| {
+        let limits = limits(verbs, 2);
+        let run = |_: usize, ask: &Ask, _: Way| {
+            let said = shown(right(ask));
+            Ok((said.clone(), said))
+        };
+        let Compared { asks, count, found } = desk::compare(&run, verbs, seed, limits, 2).unwrap();
+        assert!(found.is_none());
+        let (missing, strange) = desk::print(verbs, &count);
+        assert_eq!((missing, strange), (vec![], vec![]), "seed {seed}");
+        asks
+    };
+    let asks = all_comes_up(&asks::VERBS, 1);
+    assert!((500..1_000).contains(&asks), "{asks}");
+    for seed in 2..8 {
+        // A verb left out is not waited for.
+        all_comes_up(&["import", "close"], seed);
+    }
+}
+
+/// A difference has to be found in three tours of the verb.
+fn found(verb: &str, what: &str, wrong: &(dyn Fn(&Ask) -> Said + Sync)) {
+    let run = |_: usize, ask: &Ask, _: Way| Ok((shown(wrong(ask)), shown(right(ask))));
+    let limits = limits(&[verb], 3);
+    let Compared { asks, found, .. } = desk::compare(&run, &[verb], 1, limits, 2).unwrap();
+    let found = found.unwrap_or_else(|| panic!("{verb}, not found in {asks} asks: {what}"));
+    println!("{verb}: {what}: found by {}, after {asks}", found.ask.what);
+}
+
+/// Says it where the answer to a verb holds a file.
+fn file(answer: Result<Vec<u8>, String>) -> Said {
+    let (output, errors, status) = match answer {
+        Ok(output) => (output, Vec::new(), 0),
+        Err(line) => (Vec::new(), format!("{line}\n").into_bytes(), 1),
+    };
+    Said {
+        output,
+        errors,
+        status,
+    }
+}
+
+fn line(text: String, status: u8) -> Said {
+    Said {
+        output: format!("{text}\n").into_bytes(),
+        errors: Vec::new(),
+        status,
+    }
+}
+
+/// Asks of the verb with its right words go to `wrong`, all others are answered right.
+fn of_verb(verb: &str, ask: &Ask, wrong: impl Fn(&[u8]) -> Said) -> Said {
+    let words: Vec<&str> = ask.words.iter().map(String::as_str).collect();
+    match Verb::of(&words) {
+        Some(_) if words[0] == verb => wrong(&ask.input),
+        _ => right(ask),
+    }
+}
+
+/// The text with each match of `from` replaced.
+fn replaced(text: &[u8], from: &[u8], to: &[u8]) -> Vec<u8> {
+    let mut new = Vec::new();
+    let mut at = 0;
+    while at < text.len() {
+        if text[at..].starts_with(from) {
+            new.extend(to);
+            at += from.len();
+        } else {
+            new.push(text[at]);
+            at += 1;
+        }
+    }
+    new
+}
+
+/// Lone LF or CR as CR LF.
+fn with_ends(text: &[u8], lone: u8) -> Vec<u8> {
+    let text = replaced(text, b"\r\n", b"\x01");
+    let text = replaced(&text, &[lone], b"\r\n");
+    replaced(&text, b"\x01", b"\r\n")
+}
+
+/// The text with its sixth columns changed, where the quoting is in order.
+fn with_codes(text: &[u8], change: impl Fn(&mut Vec<u8>)) -> Vec<u8> {
+    let mut changed = Vec::new();
+    for line in lines(text) {
+        let fields = fields(line).filter(|fields| fields.len() == 6);
+        let Some(mut fields) = fields else {
+            changed.push(line.to_vec());
+            continue;
+        };
+        change(&mut fields[5]);
+        let quoted =
+            |field: &Vec<u8>| [b"\"", &replaced(field, b"\"", b"\"\"")[..], b"\""].concat();
+        let fields: Vec<Vec<u8>> = fields.iter().map(quoted).collect();
+        changed.push(fields.join(&b','));
+    }
+    let mut new = changed.join(&b"\r\n"[..]);
+    if text.ends_with(b"\r\n") {
+        new.extend(b"\r\n");
+    }
+    new
+}
+
+/// The line that an answer names.
+fn named(text: &[u8], line: u32) -> &[u8] {
+    lines(text).nth(line as usize).unwrap_or(b"")
+}
+
+type Imported = Result<Plan, Refusal>;
+type Importer = fn(&[u8]) -> Imported;
+
+const IMPORTERS: [(&str, Importer); 27] = [
+    ("LF alone ends a line", |text| {
+        import(&with_ends(text, b'\n'))
+    }),
+    ("CR alone ends a line", |text| {
+        import(&with_ends(text, b'\r'))
+    }),
+    ("quotes are left out wherever they stand", |text| {
+        import(&replaced(text, b"\"", b""))
+    }),
+    ("41 before 40 on a line", |text| match import(text) {
+        Err((40, at)) if named(text, at).split(|byte| *byte == b',').count() != 6 => Err((41, at)),
+        other => other,
+    }),
+    ("43 before 42 on a line", |text| match import(text) {
+        Err((42, at)) => {
+            let fields = fields(named(text, at)).unwrap_or_default();
+            let point = [b"point,0,,,,", &fields[5][..]].concat();
+            match import(&point) {
+                Err((43, _)) => Err((43, at)),
+                _ => Err((42, at)),
+            }
+        }
+        other => other,
+    }),
+    ("a plus sign is read", |text| {
+        import(&replaced(text, b",+", b","))
+    }),
+    ("4294967296 is wrapped to 0", |text| {
+        import(&replaced(text, b"4294967296", b"0"))
+    }),
+    ("256 is wrapped to 0", |text| {
+        import(&replaced(text, b",256,", b",0,"))
+    }),
+    ("lower-case codes are read", |text| {
+        import(&with_codes(text, |code| code.make_ascii_uppercase()))
+    }),
+    ("codes of five digits are read", |text| {
+        import(&with_codes(text, |code| {
+            if code.len() == 7 && code.ends_with(b"1") {
+                code.remove(2);
+            }
+        }))
+    }),
+    ("an empty kind word is a point", |text| {
+        let named = lines(text).map(|line| {
+            let rest = line.strip_prefix(b"\"\"").unwrap_or(line);
+            match rest.first() {
+                Some(b',') => [b"point", rest].concat(),
+                _ => line.to_vec(),
+            }
+        });
+        let named: Vec<Vec<u8>> = named.collect();
+        let end: &[u8] = if text.ends_with(b"\r\n") {
+            b"\r\n"
+        } else {
+            b""
+        };
+        import(&[&named.join(&b"\r\n"[..])[..], end].concat())
+    }),
+    ("the last line without CR LF is dropped", |text| {
+        let end = text.windows(2).rposition(|two| two == b"\r\n");
+        import(&text[..end.map_or(0, |end| end + 2)])
+    }),
+    ("a final CR LF counts as a line", |text| {
+        if text.ends_with(b"\r\n") {
+            import(&[text, b"\r\n"].concat())
+        } else {
+            import(text)
+        }
+    }),
+    ("spaces are left out", |text| {
+        import(&replaced(text, b" ", b""))
+    }),
+    ("-0 is unreadable", |text| {
+        import(&replaced(text, b",-0,", b",-,"))
+    }),
+    ("lines are counted from 1", |text| {
+        import(text).map_err(|(number, at)| (number, at + 1))
+    }),
+    ("the reader's numbers come before later lines", |text| {
+        let all: Vec<&[u8]> = lines(text).collect();
+        if all.len() < 100 {
+            for count in 1..all.len() {
+                import(&all[..count].join(&b"\r\n"[..]))?;
+            }
+        }
+        import(text)
+    }),
+    ("the old limit", |text| {
+        import(text).and_then(|plan| plan::read_with(OLD_ORDINARIES, &plan.to_bytes()))
+    }),
+    ("3 before the lines", |text| {
+        if lines(text).count() > plan::ROOM {
+            return Err((3, 0));
+        }
+        import(text)
+    }),
+    ("CR LF in quotes is left out", |text| {
+        let mut new = Vec::new();
+        let mut inside = false;
+        for byte in text {
+            inside ^= *byte == b'"';
+            if !(inside && b"\r\n".contains(byte)) {
+                new.push(*byte);
+            }
+        }
+        import(&new)
+    }),
+    ("a blank line is left out", |text| {
+        import(&replaced(text, b"\r\n\r\n", b"\r\n"))
+    }),
+    ("a line with a date is left out", |text| {
+        match import(text) {
+            Err((43, at)) => {
+                let others = lines(text).enumerate().filter(|(k, _)| *k != at as usize);
+                let others: Vec<&[u8]> = others.map(|(_, line)| line).collect();
+                import(&others.join(&b"\r\n"[..]))
+            }
+            other => other,
+        }
+    }),
+    ("a date is no pond", |text| {
+        import(&with_codes(text, |code| {
+            if code.contains(&b'-') {
+                code.clear();
+            }
+        }))
+    }),
+    ("40 at the last line", |text| match import(text) {
+        Err((40, _)) => Err((40, lines(text).count() as u32 - 1)),
+        other => other,
+    }),
+    ("AA0000 is no pond", |text| {
+        let mut plan = import(text)?;
+        plan.ponds
+            .iter_mut()
+            .for_each(|pond| *pond -= u32::from(*pond > 0));
+        Ok(plan)
+    }),
+    ("a NUL ends a field", |text| {
+        import(&replaced(text, b"\0", b""))
+    }),
+    ("bytes past 127 are left out", |text| {
+        let ascii: Vec<u8> = text.iter().copied().filter(u8::is_ascii).collect();
+        import(&ascii)
+    }),
+];
+
+#[test]
+fn wrong_imports_are_found() {
+    for (what, importer) in IMPORTERS {
+        found("import", what, &|ask| {
+            of_verb("import", ask, |text| {
+                let refused = |(number, line)| format!("import {number} {line}");
+                file(importer(text).map(|plan| plan.to_bytes()).map_err(refused))
+            })
+        });
+    }
+}
+
+type Closer = fn(&Plan) -> Result<Plan, u32>;
+
+const CLOSERS: [(&str, Closer); 11] = [
+    ("second point slowest", |plan| {
+        let mut made = close::close(plan)?;
+        made.ordinary.sort_by_key(|one| (one.y, one.x));
+        Ok(made)
+    }),
+    ("an original bound is kept", |plan| {
+        let mut made = close::close(plan)?;
+        for one in &mut made.ordinary {
+            let same = |old: &&Ordinary| (old.x, old.y) == (one.x, one.y);
+            one.d = plan.ordinary.iter().find(same).map_or(one.d, |old| old.d);
+        }
+        Ok(made)
+    }),
+    ("pond codes are dropped", |plan| {
+        let mut made = close::close(plan)?;
+        made.ponds.fill(0);
+        Ok(made)
+    }),
+    ("63 before 62", |plan| match close::close(plan) {
+        Err(62) => {
+            let points = plan.points();
+            let mut rest = plan.clone();
+            rest.ordinary.retain(|one| one.x.max(one.y) < points - 2);
+            close::close(&rest)
+                .and(Err(62))
+                .map_err(|number| number.max(62))
+        }
+        other => other,
+    }),
+    ("62 before 61", |plan| {
+        let rest = Plan {
+            links: Vec::new(),
+            waits: Vec::new(),
+            ..plan.clone()
+        };
+        match (close::close(plan), close::close(&rest)) {
+            (Err(61), Err(62)) => Err(62),
+            (other, _) => other,
+        }
+    }),
+    ("waits alone are refused", |plan| match close::close(plan) {
+        Err(61) if plan.waits.is_empty() => Err(60),
+        other => other,
+    }),
+    ("100,000 is refused", |plan| {
+        let made = close::close(plan)?;
+        match made.ordinary.iter().any(|one| one.d.abs() == BOUND) {
+            true => Err(63),
+            false => Ok(made),
+        }
+    }),
+    ("-100,001 is let through", |plan| match close::close(plan) {
+        Err(63) => Ok(plan.clone()),
+        other => other,
+    }),
+    ("a pair that no path joins has a record", |plan| {
+        let mut made = close::close(plan)?;
+        let joined = |x, y| made.ordinary.iter().any(|one| (one.x, one.y) == (x, y));
+        let all = (0..plan.points()).flat_map(|x| (0..plan.points()).map(move |y| (x, y)));
+        let none = all.filter(|&(x, y)| x != y && !joined(x, y));
+        let none: Vec<_> = none.map(|(x, y)| Ordinary { x, d: BOUND, y }).collect();
+        made.ordinary.extend(none);
+        made.ordinary.sort_by_key(|one| (one.x, one.y));
+        Ok(made)
+    }),
+    ("a cycle of zero is refused", |plan| {
+        let made = close::close(plan)?;
+        let back = |one: &Ordinary| {
+            let (x, d, y) = (one.y, -one.d, one.x);
+            made.ordinary.contains(&Ordinary { x, d, y })
+        };
+        match made.ordinary.iter().any(back) {
+            true => Err(62),
+            false => Ok(made),
+        }
+    }),
+    ("only the typed records, in order", |plan| {
+        close::close(plan)?;
+        let mut made = plan.clone();
+        made.ordinary.sort_by_key(|one| (one.x, one.y));
+        Ok(made)
+    }),
+];
+
+/// The plan of an input, or its refusal.
+fn read(input: &[u8]) -> Result<Plan, String> {
+    plan::read(input).map_err(|(number, record)| format!("plan {number} {record}"))
+}
+
+#[test]
+fn wrong_closings_are_found() {
+    for (what, closer) in CLOSERS {
+        found("close", what, &|ask| {
+            of_verb("close", ask, |input| {
+                let made = read(input).and_then(|plan| {
+                    let made = closer(&plan);
+                    made.map_err(|number| format!("close {number}"))
+                });
+                file(made.map(|plan| plan.to_bytes()))
+            })
+        });
+    }
+}
+
+/// The finishing minutes of all projections, of those that `counts` lets count.
+fn minutes(plan: &Plan, counts: impl Fn(&[i64]) -> bool) -> Vec<(u32, u32)> {
+    let all = (0..).zip(Odometer::new(plan)).filter(|(_, p)| counts(p));
+    let ended =
+        all.map(|(number, p)| (number, worst::run(plan, &p).map_or(0, |run| run.last.clock)));
+    ended.collect()
+}
+
+fn first_largest(minutes: &[(u32, u32)]) -> Worst {
+    let mut worst = Worst {
+        minute: 0,
+        projection: 0,
+    };
+    for &(projection, minute) in minutes {
+        if minute > worst.minute {
+            worst = Worst { minute, projection };
+        }
+    }
+    worst
+}
+
+fn extreme(plan: &Plan, durations: &[i64]) -> bool {
+    let mut links = plan.links.iter().zip(durations);
+    links.all(|(link, p)| [link.x, link.y].contains(p))
+}
+
+type Worster = fn(&Plan) -> Result<Worst, u32>;
+
+const WORSTS: [(&str, Worster); 5] = [
+    ("the last projection of equal minutes", |plan| {
+        let right = worst::worst(plan)?;
+        let all = minutes(plan, |_| true);
+        let last = all.iter().rev().find(|(_, minute)| *minute == right.minute);
+        let projection = last.map_or(0, |last| last.0);
+        Ok(Worst {
+            projection,
+            ..right
+        })
+    }),
+    (
+        "only shortest and longest durations, numbered by themselves",
+        |plan| {
+            worst::worst(plan)?;
+            let all = minutes(plan, |p| extreme(plan, p));
+            let renumbered: Vec<_> = (0..).zip(all).map(|(k, (_, minute))| (k, minute)).collect();
+            Ok(first_largest(&renumbered))
+        },
+    ),
+    ("the clock before the last event", |plan| {
+        let right = worst::worst(plan)?;
+        let events = worst::day(plan, right.projection)?;
+        let before = events.iter().rev().nth(1);
+        let minute = before.map_or(0, |e| u32::from_le_bytes([e[0], e[1], e[2], e[3]]));
+        Ok(Worst { minute, ..right })
+    }),
+    ("60 before 13", |plan| worst::worst(plan).map_err(|_| 60)),
+    (
+        "a plan that does not pass is run",
+        |plan| match worst::worst(plan) {
+            Err(60) => Ok(first_largest(&minutes(plan, |_| true))),
+            other => other,
+        },
+    ),
+];
+
+#[test]
+fn wrong_worst_minutes_are_found() {
+    for (what, worster) in WORSTS {
+        found("worst", what, &|ask| {
+            of_verb("worst", ask, |input| match read(input) {
+                Err(refusal) => line(refusal, 1),
+                Ok(plan) => match worster(&plan) {
+                    Ok(Worst { minute, projection }) => {
+                        line(format!("worst {minute} {projection}"), 0)
+                    }
+                    Err(number) => line(format!("worst {number}"), 1),
+                },
+            })
+        });
+    }
+}
+
+/// What a run does otherwise.
+#[derive(Clone, Copy, PartialEq)]
+enum Otherwise {
+    HighestMinute,
+    HighestNumber,
+    OnTheAimApart,
+    BeforeTheAimForgotten,
+    OneAtATime,
+}
+
+/// The events of a run that does something otherwise.
+fn run_otherwise(plan: &Plan, durations: &[i64], otherwise: Otherwise) -> Vec<[u8; 16]> {
+    let mut events = Vec::new();
+    let mut at = Board::fresh();
+    while let Ok(reply) = board::reply(plan, &at) {
+        if matches!(reply.outcome, Outcome::Finished | Outcome::Stuck) {
+            break;
+        }
+        let links = plan.links.iter().zip(durations);
+        let running = links.filter(|(link, _)| board::is_running(&at, link));
+        let falls: Vec<(i64, usize)> = running
+            .map(|(link, p)| (at.minute(link.a) + p, link.c))
+            .collect();
+        let next = falls.iter().min().map(|fall| fall.0);
+        let offered = (0..)
+            .zip(reply.places)
+            .filter_map(|(point, place)| match place {
+                Place::Offered(low) => Some((low, point)),
+                _ => None,
+            });
+        let aim = match otherwise {
+            Otherwise::HighestMinute => {
+                offered.max_by_key(|&(low, point): &(i64, u8)| (low, 255 - point))
+            }
+            Otherwise::HighestNumber => offered.min_by_key(|&(low, point)| (low, 255 - point)),
+            _ => offered.min(),
+        };
+        let forgotten = otherwise == Otherwise::BeforeTheAimForgotten;
+        let apart = otherwise == Otherwise::OnTheAimApart;
+        let (minute, foreman) = match (aim, next) {
+            (Some((low, point)), next) if next.is_none_or(|next| forgotten || low <= next) => {
+                (low, point)
+            }
+            (_, Some(next)) => (next, 255),
+            _ => break,
+        };
+        let mut now = falls.iter().filter(|fall| fall.0 == minute);
+        let set = match otherwise {
+            Otherwise::OneAtATime => now.next().map_or(0, |fall| 1 << fall.1),
+            _ => now.fold(0, |set, fall| set | 1u32 << fall.1),
+        };
+        let foreman = if apart && set != 0 { 255 } else { foreman };
+        let event = compare::events::record(minute as u32, foreman, set);
+        let (number, after) = event::take(plan, &at, &event);
+        if number != 0 {
+            break;
+        }
+        events.push(event);
+        at = after;
+    }
+    events
+}
+
+#[test]
+fn wrong_days_are_found() {
+    // The events of a projection of a plan that passes, and what the whole file is made into.
+    type Events = fn(&Plan, u32) -> Vec<[u8; 16]>;
+    fn otherwise(plan: &Plan, number: u32, otherwise: Otherwise) -> Vec<[u8; 16]> {
+        let durations = Odometer::new(plan).nth(number as usize);
+        durations.map_or(Vec::new(), |p| run_otherwise(plan, &p, otherwise))
+    }
+    let events: [(&str, Events); 7] = [
+        ("aims at the highest offered minute", |plan, number| {
+            otherwise(plan, number, Otherwise::HighestMinute)
+        }),
+        ("aims at the highest number", |plan, number| {
+            otherwise(plan, number, Otherwise::HighestNumber)
+        }),
+        ("watched points on the aim come apart", |plan, number| {
+            otherwise(plan, number, Otherwise::OnTheAimApart)
+        }),
+        (
+            "watched points before the aim are forgotten",
+            |plan, number| otherwise(plan, number, Otherwise::BeforeTheAimForgotten),
+        ),
+        ("watched points one at a time", |plan, number| {
+            otherwise(plan, number, Otherwise::OneAtATime)
+        }),
+        (
+            "past the last projection, the last one's",
+            |plan, number| {
+                let last = plan_test::projections(plan).unwrap_or(1) as u32 - 1;
+                worst::day(plan, number.min(last)).unwrap_or_default()
+            },
+        ),
+        ("the last link slowest", |plan, number| {
+            let mut all: Vec<Vec<i64>> = Odometer::new(plan).collect();
+            all.sort_by_key(|p| p.iter().rev().copied().collect::<Vec<i64>>());
+            let durations = all.get(number as usize);
+            let run = durations.and_then(|p| worst::run(plan, p));
+            run.map_or(Vec::new(), |run| run.events)
+        }),
+    ];
+    for (what, events) in events {
+        found("day", what, &|ask| {
+            let said = right(ask);
+            if said.status != 0 {
+                return said;
+            }
+            let plan = read(&ask.input).unwrap();
+            let events = events(&plan, ask.words[1].parse().unwrap());
+            file(Ok([&ask.input[..], &[255; 16], &events.concat()].concat()))
+        });
+    }
+    found("day", "the mark is missing", &|ask| {
+        let mut said = right(ask);
+        if said.status == 0 {
+            said.output.drain(ask.input.len()..ask.input.len() + 16);
+        }
+        said
+    });
+    found(
+        "day",
+        "zeros in front are refused",
+        &|ask| match &ask.words[..] {
+            [_, number] if number.len() > 1 && number.starts_with('0') => wrong_usage(),
+            _ => right(ask),
+        },
+    );
+    found("day", "a number is taken modulo 2 to the 32", &|ask| {
+        let words: Vec<&str> = ask.words.iter().map(String::as_str).collect();
+        match words[..] {
+            ["day", "4294967296"] => Verb::Day(0).said(&ask.input),
+            _ => right(ask),
+        }
+    });
+}
+
+type Tester = fn(&Plan) -> Result<Answer, Refusal>;
+
+/// The test with another fault of a projection, or with some projections left out.
+fn tested(plan: &Plan, fault: impl Fn(&[i64]) -> Option<Fault>) -> Result<Answer, Refusal> {
+    if plan_test::projections(plan).is_none() {
+        return Err((13, 0));
+    }
+    let mut tried = 0;
+    for durations in Odometer::new(plan) {
+        match fault(&durations) {
+            Some(Fault::Cycle) => return Ok(Answer::Cycle(tried)),
+            Some(Fault::Pair(x, y)) => return Ok(Answer::Pair(tried, x, y)),
+            None => tried += 1,
+        }
+    }
+    Ok(Answer::Yes(tried))
+}
+
+fn right_fault(plan: &Plan, durations: &[i64]) -> Option<Fault> {
+    plan_test::fault(plan.points(), &plan_test::edges(plan, durations))
+}
+
+const TESTERS: [(&str, Tester); 6] = [
+    ("only the shortest and longest durations", |plan| {
+        tested(plan, |p| right_fault(plan, p).filter(|_| extreme(plan, p)))
+    }),
+    ("a wait is projected as -w", |plan| {
+        tested(plan, |p| {
+            let mut edges = plan_test::edges(plan, p);
+            edges.extend(
+                plan.waits
+                    .iter()
+                    .map(|one| (one.v, -one.w, plan.link_of(one).a)),
+            );
+            plan_test::fault(plan.points(), &edges)
+        })
+    }),
+    (
+        "4,096 projections are too many",
+        |plan| match plan_test::projections(plan) {
+            Some(4_096) => Err((13, 0)),
+            _ => plan_test::plan_test(plan),
+        },
+    ),
+    ("4,097 projections are tried", |plan| {
+        let count = plan.links.iter().map(|link| link.y - link.x + 1).product();
+        match count {
+            4_097i64 => Ok(Answer::Yes(4_097)),
+            _ => plan_test::plan_test(plan),
+        }
+    }),
+    ("a cycle is no fault", |plan| {
+        tested(plan, |p| {
+            right_fault(plan, p).filter(|fault| *fault != Fault::Cycle)
+        })
+    }),
+    ("second point slowest", |plan| {
+        let answer = plan_test::plan_test(plan)?;
+        let Answer::Pair(at, ..) = answer else {
+            return Ok(answer);
+        };
+        let durations = Odometer::new(plan).nth(at as usize).unwrap_or_default();
+        let edges = plan_test::edges(plan, &durations);
+        let points = plan.points();
+        let bad = |x: usize, y: usize| {
+            let shortest = plan_test::distances(points, &edges, x).map(|all| all[y]);
+            shortest != plan_test::vee_distances(points, &edges, x).map(|all| all[y])
+        };
+        let all = (0..points).flat_map(|y| (0..points).map(move |x| (x, y)));
+        let first = all.into_iter().find(|&(x, y)| bad(x, y));
+        Ok(first.map_or(answer, |(x, y)| Answer::Pair(at, x, y)))
+    }),
+];
+
+#[test]
+fn wrong_tests_are_found() {
+    for (what, tester) in TESTERS {
+        found("test", what, &|ask| {
+            of_verb("test", ask, |input| match read(input) {
+                Err(refusal) => line(refusal, 1),
+                Ok(plan) => match tester(&plan) {
+                    Ok(Answer::Yes(count)) => line(format!("test yes {count}"), 0),
+                    Ok(Answer::Cycle(at)) => line(format!("test cycle {at}"), 0),
+                    Ok(Answer::Pair(at, x, y)) => line(format!("test pair {at} {x} {y}"), 0),
+                    Err((number, _)) => line(format!("test {number}"), 1),
+                },
+            })
+        });
+    }
+}
+
+#[test]
+fn wrong_readers_and_outputs_are_found() {
+    type Changed = fn(&[u8]) -> Vec<u8>;
+    let inputs: [(&str, Changed); 2] = [
+        ("bytes past the last whole record are left out", |input| {
+            input[..input.len() / 16 * 16].to_vec()
+        }),
+        ("a mark ends the plan", |input| {
+            let mark = input.chunks(16).position(|record| record == [255; 16]);
+            input[..mark.map_or(input.len(), |mark| 16 * mark)].to_vec()
+        }),
+    ];
+    let verbs = ["test", "worst", "day", "close"];
+    for verb in verbs {
+        for (what, changed) in inputs {
+            found(verb, what, &|ask| {
+                right(&Ask {
+                    what: String::new(),
+                    words: ask.words.clone(),
+                    input: changed(&ask.input),
+                    cases: Vec::new(),
+                })
+            });
+        }
+        found(verb, "the old limit", &|ask| {
+            of_verb(verb, ask, |input| {
+                match plan::read_with(OLD_ORDINARIES, input) {
+                    Err((number @ (3 | 6), record)) => {
+                        let refusal = format!("plan {number} {record}");
+                        match verb {
+                            "test" | "worst" => line(refusal, 1),
+                            _ => file(Err(refusal)),
+                        }
+                    }
+                    _ => right(ask),
+                }
+            })
+        });
+    }
+    for verb in asks::VERBS {
+        found(verb, "a refusal ends with status 0", &|ask| {
+            let mut said = right(ask);
+            said.status = if said.status == 1 { 0 } else { said.status };
+            said
+        });
+        found(verb, "a refusal goes to the other output", &|ask| {
+            let mut said = right(ask);
+            if said.status == 1 {
+                std::mem::swap(&mut said.output, &mut said.errors);
+            }
+            said
+        });
+        found(verb, "a last line feed is missing", &|ask| {
+            let mut said = right(ask);
+            said.output.pop();
+            said
+        });
+        found(
+            verb,
+            "too many words are let be",
+            &|ask| match &ask.words[..] {
+                [first, rest @ ..]
+                    if first == verb && rest.len() > 1 - usize::from(verb != "day") =>
+                {
+                    let wanted = 1 + usize::from(verb == "day");
+                    let words: Vec<&str> = ask.words[..wanted].iter().map(String::as_str).collect();
+                    Verb::of(&words).map_or_else(wrong_usage, |verb| verb.said(&ask.input))
+                }
+                _ => right(ask),
+            },
+        );
+        found(verb, "wrong usage without a word", &|ask| {
+            let mut said = right(ask);
+            if said.status == 2 {
+                said.errors.clear();
+            }
+            said
+        });
+        found(verb, "wrong usage on two lines", &|ask| {
+            let mut said = right(ask);
+            if said.status == 2 {
+                said.errors.extend(said.errors.clone());
+            }
+            said
+        });
+    }
+}
+
+/// Each program's own line about wrong usage is no difference, where it names the verbs.
+#[test]
+fn lines_about_wrong_usage() {
+    let line = |text: &str, status| {
+        shown(Said {
+            output: Vec::new(),
+            errors: text.as_bytes().to_vec(),
+            status,
+        })
+    };
+    let differ = |ours: &Shown, theirs: &Shown| desk::differ(&["test", "day"], ours, theirs);
+    let ours = line("desk test|day N|list\n", 2);
+    let theirs = line("usage: test, day\n", 2);
+    assert!(!differ(&ours, &theirs));
+    for other in [
+        "desk test\n",
+        "desk tests day\n",
+        "desk test day",
+        "test\nday\n",
+        "",
+    ] {
+        assert!(differ(&line(other, 2), &theirs), "{other:?}");
+    }
+    assert!(differ(&line("desk test day\n", 1), &theirs));
+    // Both the same, but as `desk` never ends.
+    assert!(differ(&line("", 3), &line("", 3)));
+}
+
+/// A program that is started: both outputs and how it ended.
+#[test]
+fn programs_with_both_outputs() {
+    let script = "head -c 3; echo $0 >&2; exit 2";
+    let words = ["sh", "-c", script, "said"].map(str::to_string);
+    let scratch = std::env::temp_dir().join(format!("desk-test-{}", std::process::id()));
+    for way in [Way::Pipe, Way::Pieces(1), Way::File] {
+        let (ours, theirs) =
+            programs::run_with_errors(&words, &words, b"abcdef", way, Path::new(&scratch)).unwrap();
+        assert_eq!(
+            (&ours.bytes[..], &ours.errors[..]),
+            (&b"abc"[..], &b"said\n"[..])
+        );
+        assert_eq!(ours.ended, "exit status: 2");
+        assert_eq!(ours, theirs);
+    }
+    let _ = std::fs::remove_file(scratch);
+}
+
+#[test]
+fn smaller_texts() {
+    let tries = RefCell::new(0);
+    let bad = |text: &[u8]| {
+        *tries.borrow_mut() += 1;
+        Ok(text.windows(2).any(|two| two == b"x,"))
+    };
+    let text = b"point,0\r\nabc,1\r\nhere is x,y\r\nlast\r\n".repeat(20);
+    assert_eq!(smaller::smaller_text(&bad, &text).unwrap(), b"x,");
+    assert!(*tries.borrow() < 400);
+}

@@ -1,0 +1,136 @@
+//! The program `desk`: a verb and its words, standard input to standard output.
+
+use crate::close;
+use crate::import;
+use crate::plan::{self, Plan};
+use crate::text::{self, MARK};
+use crate::worst::{self, Worst};
+
+/// What was said on standard output and on standard error, and how it ended: 0, 1 for a refusal, 2 for wrong usage.
+#[derive(Clone, PartialEq, Eq, Debug)]
+pub struct Said {
+    pub output: Vec<u8>,
+    pub errors: Vec<u8>,
+    pub status: u8,
+}
+
+/// A verb with its words.
+#[derive(Clone, Copy, PartialEq, Eq, Debug)]
+pub enum Verb {
+    Test,
+    Worst,
+    Day(u32),
+    Import,
+    Close,
+}
+
+/// The line about wrong usage.
+const USAGE: &str = "usage: oracle-desk test | worst | day PROJECTION | import | close";
+
+impl Verb {
+    /// None where there is no such verb, or the words are not its words.
+    pub fn of(words: &[&str]) -> Option<Verb> {
+        match words {
+            ["test"] => Some(Verb::Test),
+            ["worst"] => Some(Verb::Worst),
+            ["day", projection] => number(projection).map(Verb::Day),
+            ["import"] => Some(Verb::Import),
+            ["close"] => Some(Verb::Close),
+            _ => None,
+        }
+    }
+
+    /// What is said of this standard input.
+    pub fn said(self, input: &[u8]) -> Said {
+        match self {
+            Verb::Test => lines(test(input)),
+            Verb::Worst => lines(worst(input)),
+            Verb::Day(projection) => file(day(input, projection)),
+            Verb::Import => file(import(input)),
+            Verb::Close => file(close(input)),
+        }
+    }
+}
+
+/// What is said of a verb or words that are none.
+pub fn wrong_usage() -> Said {
+    Said {
+        output: Vec::new(),
+        errors: line(USAGE),
+        status: 2,
+    }
+}
+
+/// Decimal digits, as many zeros in front as one likes, that fit 32 bits. `parse` would take a plus too.
+fn number(word: &str) -> Option<u32> {
+    let digits = word.bytes().all(|byte| byte.is_ascii_digit());
+    word.parse().ok().filter(|_| digits)
+}
+
+fn line(text: &str) -> Vec<u8> {
+    format!("{text}\n").into_bytes()
+}
+
+/// A verb that prints lines: a refusal is one of them.
+fn lines(answer: Result<String, String>) -> Said {
+    let status = u8::from(answer.is_err());
+    let (Ok(text) | Err(text)) = answer;
+    Said {
+        output: line(&text),
+        errors: Vec::new(),
+        status,
+    }
+}
+
+/// A verb whose standard output is a file: a refusal goes to standard error.
+fn file(answer: Result<Vec<u8>, String>) -> Said {
+    match answer {
+        Ok(output) => Said {
+            output,
+            errors: Vec::new(),
+            status: 0,
+        },
+        Err(text) => Said {
+            output: Vec::new(),
+            errors: line(&text),
+            status: 1,
+        },
+    }
+}
+
+/// The plan of a file that is nothing more, or how its refusal is said.
+fn plan(file: &[u8]) -> Result<Plan, String> {
+    plan::read(file).map_err(|(number, record)| format!("plan {number} {record}"))
+}
+
+fn test(file: &[u8]) -> Result<String, String> {
+    text::test_line(&plan(file)?)
+}
+
+fn worst(file: &[u8]) -> Result<String, String> {
+    match worst::worst(&plan(file)?) {
+        Ok(Worst { minute, projection }) => Ok(format!("worst {minute} {projection}")),
+        Err(number) => Err(format!("worst {number}")),
+    }
+}
+
+/// The plan file, the mark and the events of the projection's run: what `sheet` and `offers` read.
+fn day(file: &[u8], projection: u32) -> Result<Vec<u8>, String> {
+    let events = worst::day(&plan(file)?, projection);
+    let events = events.map_err(|number| format!("day {number}"))?;
+    Ok([file, &MARK, &events.concat()].concat())
+}
+
+/// The plan file of a text. The reader's own numbers are said as the others are: the record is the line.
+fn import(text: &[u8]) -> Result<Vec<u8>, String> {
+    let plan = import::import(text);
+    let plan = plan.map_err(|(number, line)| format!("import {number} {line}"))?;
+    Ok(plan.to_bytes())
+}
+
+/// The file of the made plan.
+fn close(file: &[u8]) -> Result<Vec<u8>, String> {
+    let made = close::close(&plan(file)?);
+    let made = made.map_err(|number| format!("close {number}"))?;
+    Ok(made.to_bytes())
+}

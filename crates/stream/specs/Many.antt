@@ -8,7 +8,7 @@ use Rattle.points.specs.Sets.{countOf}
 use Rattle.board.specs.Streams.{eventsIn, manyIn, said, saidNumbers, takeAllOf, saidAllOf}
 use Rattle.board.specs.declared.Taken.{Taken}
 use Rattle.text.specs.Lines.{numbersLine, eventLine}
-use Rattle.text.specs.declared.Line.{Line}
+use Rattle.lines.specs.declared.Line.{Line}
 use Rattle.stream.specs.Sheets.{nothing, nextOf}
 use Rattle.stream.specs.declared.sheet.Sheet.{Sheet}
 

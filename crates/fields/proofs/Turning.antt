@@ -9,7 +9,7 @@ use native.Mathlib.Numerals.{add-one}
 use lib.Dec.{eqb}
 use lib.ListN.{length, drop, getD, drop-of-length-le}
 use lib.Seq.{drop-cons}
-use borrow.Author.Tests.{eq-eqb, ne-eqb}
+use borrow.Author.Tests.{ne-eqb}
 use Rattle.fields.specs.Quoting.{quote, comma, cr, lf, isBreak, bareAct, quotedAct, closedAct}
 use Rattle.fields.specs.Inside.{endsLine, stepOf, stopped, stoppedAtEnd, onward, fieldFrom}
 use Rattle.values.specs.declared.Seen.{Seen}
@@ -85,7 +85,7 @@ pub quoted-keeps : (c : ℕ) → (c ≡ quote → ⊥) → isBreak c ≡ false �
 quoted-keeps c n e = rw (ne-eqb c quote n, e)
 
 pub closed-keeps : (c : ℕ) → c ≡ quote → Keep Quoted ≡ closedAct c
-closed-keeps c e = rw (eq-eqb c quote e)
+closed-keeps c e = sym (ap closedAct e)
 
 -- a quote that the text's end leaves open
 pub open-end : (p : Place) (u : Seen) (i : ℕ) → p ≡ Quoted → Unquoted ≡ stoppedAtEnd p u i

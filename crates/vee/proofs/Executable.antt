@@ -50,7 +50,7 @@ use Rattle.vee.proofs.Arcs.{In, given-in, in-given, Small, drawn}
 use Rattle.vee.proofs.Edges.{to-given, from-given, small-given}
 
 -- what holds of either choice, where the test says so
-pub by-test : {A : Type 0} (P : A → Type 0) (b : Bool) (x y : A) → (b ≡ true → P x) → (b ≡ false → P y) → P (if b then x else y)
+by-test : {A : Type 0} (P : A → Type 0) (b : Bool) (x y : A) → (b ≡ true → P x) → (b ≡ false → P y) → P (if b then x else y)
 by-test P true x y h k = h refl
 by-test P false x y h k = k refl
 
@@ -80,7 +80,7 @@ module _ (n : ℕ) (so : ℕ → Bool) where
   pub first-so : first n so < n → so (first n so) ≡ true
   first-so h = first-of 0 n so .here (omega arith)
 
-  pub none-before : (j : ℕ) → j < first n so → so j ≡ false
+  none-before : (j : ℕ) → j < first n so → so j ≡ false
   none-before j h = first-of 0 n so .before j (omega arith) h
 
   pub none-among : among n so ≡ false → (j : ℕ) → j < n → so j ≡ false

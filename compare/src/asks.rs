@@ -4,6 +4,7 @@ use crate::damage;
 use crate::draw::Draw;
 use crate::events::MARK;
 use crate::inputs;
+use crate::links;
 use crate::plans::{self, Sizes, FULL};
 use crate::texts;
 use oracle::board::{self, Board, Outcome, Place};
@@ -157,6 +158,7 @@ pub fn refused(draw: &mut Draw, number: u32) -> Vec<u8> {
             }
             4 if draw.one_in(3) => file.extend([255; RECORD]),
             6 => file = one_too_many(draw),
+            10 if draw.one_in(2) => damage::second_end(draw, &mut file),
             _ => {
                 for _ in 0..1 + draw.below(2) {
                     damage::aim(draw, &mut file);
@@ -232,6 +234,9 @@ fn about_plans(draw: &mut Draw, verb: &str, kind: usize, tour: u64) -> Vec<Ask> 
             plans.push(("a long drive", plans::far_haul(draw)));
             plans.push(("a plan that passes", plans::passing(draw)));
             plans.push(("a larger one that passes", plans::passing_larger(draw)));
+            for (drives, fork) in [(2, false), (3, true), (8, false)] {
+                plans.push(("trucks in a chain", plans::trucks(draw, drives, fork)));
+            }
             plans.push(("a small star", plans::star(draw, small, false)));
             plans.push(("a small layered plan", plans::layered(draw, small, false)));
         }
@@ -249,6 +254,12 @@ fn about_plans(draw: &mut Draw, verb: &str, kind: usize, tour: u64) -> Vec<Ask> 
             }
             plans.push(("a plan that gets stuck", plans::stuck(draw)));
             plans.push(("a cycle in some projections", plans::late_cycle(draw)));
+            for length in [2, 3] {
+                plans.push(("a ring of links", plans::ringed(draw, length)));
+            }
+            let mut plan = plans::any_trucks(draw);
+            plans::near_miss(draw, &mut plan);
+            plans.push(("trucks in a chain, nearly", plan));
             // A shorter wait is missed where the drive is long enough for it.
             let mut plan = plans::haul_as_it_stands();
             plan.waits[0].w = draw.between(5, 34);
@@ -337,7 +348,7 @@ fn about_plans(draw: &mut Draw, verb: &str, kind: usize, tour: u64) -> Vec<Ask> 
 fn met(draw: &mut Draw, verb: &str, wanted: &str) -> Ask {
     let case = format!("{verb}: {wanted}");
     loop {
-        let plan = match draw.below(4) {
+        let plan = match draw.below(5) {
             0 => plans::haul(draw),
             1 => {
                 let mut sizes = Sizes::small(draw);
@@ -345,6 +356,7 @@ fn met(draw: &mut Draw, verb: &str, wanted: &str) -> Ask {
                 plans::star(draw, sizes, false)
             }
             2 => plans::passing(draw),
+            3 => plans::any_trucks(draw),
             _ => plans::passing_larger(draw),
         };
         let cases = cases_of(verb, &plan);
@@ -385,6 +397,7 @@ fn cases_of(verb: &str, plan: &Plan) -> Vec<String> {
     if plan.links.is_empty() {
         cases.push(case("no links"));
     }
+    cases.extend(links::shapes(plan).into_iter().map(case));
     if plan.ordinary.len() > plan::OLD_ORDINARIES {
         cases.push(case("more than 256 ordinary records"));
     }
@@ -464,12 +477,15 @@ fn worded(draw: &mut Draw, mut ask: Ask, plan: Option<&Plan>) -> Ask {
 const EQUAL: &str = "equal minutes, not the first projection";
 
 /// What a run may meet.
-const RUNS: [&str; 5] = [
+const RUNS: [&str; 8] = [
     "two points at the lowest minute",
     "watched points on the aim",
     "watched points before the aim",
     "a board that waits",
     "two watched points at one minute",
+    links::STARTS,
+    "an end on the aim starts a link",
+    "an end starts two links",
 ];
 
 /// What the run of a projection meets.
@@ -503,6 +519,14 @@ fn cases_of_run(plan: &Plan, projection: u32) -> Vec<&'static str> {
         }
         if set.count_ones() > 1 {
             cases.push(RUNS[4]);
+        }
+        let started = plan.links.iter().filter(|link| set >> link.a & 1 == 1);
+        let started: Vec<usize> = started.map(|link| link.a).collect();
+        if !started.is_empty() {
+            cases.push(if foreman { RUNS[6] } else { RUNS[5] });
+        }
+        if (1..started.len()).any(|k| started[..k].contains(&started[k])) {
+            cases.push(RUNS[7]);
         }
         at = event::take(plan, &at, &record).1;
     }
@@ -727,6 +751,15 @@ fn cases_of_closing(plan: &Plan) -> Vec<String> {
 
 /// The cases that must come up for a verb, besides what is said.
 pub fn cases(verb: &str) -> Vec<String> {
+    let mut cases = own_cases(verb);
+    if ["test", "worst", "day", "import"].contains(&verb) {
+        let shapes = links::SHAPES.iter();
+        cases.extend(shapes.map(|shape| format!("{verb}: {shape}")));
+    }
+    cases
+}
+
+fn own_cases(verb: &str) -> Vec<String> {
     let all: &[&str] = match verb {
         "test" => &[
             "no links",
@@ -757,6 +790,9 @@ pub fn cases(verb: &str) -> Vec<String> {
             RUNS[2],
             RUNS[3],
             RUNS[4],
+            RUNS[5],
+            RUNS[6],
+            RUNS[7],
             "the last projection",
             "a number past the last projection",
             "zeros in front",

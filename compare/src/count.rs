@@ -1,6 +1,7 @@
 //! Counts what came up in what was printed: reply numbers, endings, the replies and tests that `offers` prints, and the
-//! answers of the probe.
+//! answers of the probe; and what links there were in the inputs.
 
+use crate::links::{EVENTS, SHAPES, TENS};
 use std::collections::BTreeMap;
 
 /// What must come up in the lines of both printing programs: numbers on the plan line, numbers of events, and endings.
@@ -67,12 +68,15 @@ fn expected(name: &str) -> Vec<String> {
         for (call, answers) in PROBE {
             all.extend(answers.iter().map(|answer| format!("{call} {answer}")));
         }
+        all.extend(SHAPES.iter().chain(&TENS).map(|key| key.to_string()));
         return all;
     }
     all.extend(printing());
     if name == "offers" {
         all.extend(OFFERS.map(str::to_string));
     }
+    let links = SHAPES.iter().chain(&TENS).chain(&EVENTS);
+    all.extend(links.map(|key| key.to_string()));
     all
 }
 
@@ -197,11 +201,11 @@ pub fn print(names: &[&str], counts: &[Count]) -> (Vec<String>, Vec<String>) {
         rows.extend(new);
     }
     let head: String = names.iter().map(|name| format!("{name:>10}")).collect();
-    println!("{:<14}{head}", "");
+    println!("{:<36}{head}", "");
     for key in rows {
         let cell = |count: &Count| format!("{:>10}", count.of(&key));
         let row: String = counts.iter().map(cell).collect();
-        println!("{key:<14}{row}");
+        println!("{key:<36}{row}");
     }
     (missing, strange)
 }

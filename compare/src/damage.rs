@@ -113,11 +113,12 @@ pub fn aim(draw: &mut Draw, bytes: &mut [u8]) {
             record[2] = record[1];
         }
         5 => {
-            // Points of some link in places where they may not stand.
+            // Points of some link in places where they may not stand, or could not before document 02: a second end of one
+            // point, and an A that ends a link or a C that starts one.
             let others: Vec<&Vec<u8>> = links.iter().filter(|link| link[2] != record[2]).collect();
             if record[0] == 2 && !others.is_empty() && draw.one_in(2) {
                 let other = draw.pick(&others);
-                let (to, from) = draw.pick(&[(1, 2), (2, 1), (2, 2)]);
+                let (to, from) = draw.pick(&[(1, 2), (2, 1), (2, 2), (2, 2)]);
                 record[to] = other[from];
             } else if !links.is_empty() {
                 let link = &links[draw.below(links.len())];
@@ -160,6 +161,17 @@ pub fn aim(draw: &mut Draw, bytes: &mut [u8]) {
             let new = draw.pick(&[large, 0, 1, -1, y, y.wrapping_add(1)]);
             record[4..8].copy_from_slice(&new.to_le_bytes());
         }
+    }
+}
+
+/// Gives a link the C of an earlier one, which is all that 10 says of links; nothing where there are not two.
+pub fn second_end(draw: &mut Draw, bytes: &mut [u8]) {
+    let places = 0..bytes.len() / RECORD;
+    let links: Vec<usize> = places.filter(|&k| bytes[k * RECORD] == 2).collect();
+    if links.len() > 1 {
+        let second = 1 + draw.below(links.len() - 1);
+        let first = draw.below(second);
+        bytes[links[second] * RECORD + 2] = bytes[links[first] * RECORD + 2];
     }
 }
 

@@ -4,6 +4,7 @@ use crate::draw::Draw;
 use oracle::board::{self, Board};
 use oracle::event;
 use oracle::plan::{Link, Plan, RECORD};
+use oracle::worst;
 
 pub type Record = [u8; RECORD];
 
@@ -73,7 +74,7 @@ pub fn spoiled(draw: &mut Draw, plan: &Plan, at: &Board, good: Record) -> Record
     let mut bytes = good;
     let minute = u32::from_le_bytes([good[0], good[1], good[2], good[3]]);
     let mut put = |minute: u32| bytes[..4].copy_from_slice(&minute.to_le_bytes());
-    match draw.below(12) {
+    match draw.below(13) {
         0 => put(minute.wrapping_sub(1)),
         1 => put(minute.wrapping_add(1)),
         2 => put(at.clock.wrapping_sub(1)),
@@ -103,6 +104,36 @@ pub fn spoiled(draw: &mut Draw, plan: &Plan, at: &Board, good: Record) -> Record
         10 => {
             let bit = draw.below(32);
             bytes[8 + bit / 8] ^= 1 << (bit % 8);
+        }
+        11 => {
+            // A link ends in the event that starts it; or, with the minute moved, one that hangs on another one too soon or late.
+            let running = running(plan, at);
+            let ended = |link: &&Link| running.iter().any(|first| first.c == link.a);
+            let hung: Vec<&Link> = plan.links.iter().filter(ended).collect();
+            let late: Vec<&Link> = running.iter().filter(|l| plan.watched(l.a)).collect();
+            if !hung.is_empty() {
+                let link = draw.pick(&hung);
+                let first = running.iter().find(|first| first.c == link.a);
+                let [from, to] = first.map_or([0, 0], |first| {
+                    [first.x, first.y].map(|p| at.minute(first.a) + p)
+                });
+                put(draw.edgy(from.max(at.clock()), to) as u32);
+                bytes[4] = 255;
+                let set = 1u32 << link.a | 1 << link.c;
+                bytes[8..12].copy_from_slice(&set.to_le_bytes());
+            } else if !late.is_empty() {
+                let link = draw.pick(&late);
+                let a = at.minute(link.a);
+                let (p, set) = draw.pick(&[
+                    (link.x - 1, 1u32 << link.c),
+                    (link.y + 1, 1 << link.c),
+                    (link.y + 1, 0),
+                ]);
+                put((a + p) as u32);
+                // 27 comes before anything about the foreman's point.
+                bytes[4] = draw.below(plan.points()) as u8;
+                bytes[8..12].copy_from_slice(&set.to_le_bytes());
+            }
         }
         _ => {
             let place = draw.pick(&[5, 6, 7, 12, 13, 14, 15]);
@@ -141,6 +172,37 @@ pub fn noise(draw: &mut Draw, plan: &Plan, at: &Board) -> Record {
             record(minute, foreman, set)
         }
     }
+}
+
+/// The run of some projection of a plan that passes the test, with events between that are refused: each link that starts where
+/// another ends is ended in the event that starts it, one minute too soon and too late, and left behind by one minute.
+pub fn hanging(draw: &mut Draw, plan: &Plan) -> Vec<u8> {
+    let durations: Vec<i64> = plan
+        .links
+        .iter()
+        .map(|link| draw.edgy(link.x, link.y))
+        .collect();
+    let mut bytes = Vec::new();
+    let mut at = Board::fresh();
+    for event in worst::run(plan, &durations).map_or(Vec::new(), |run| run.events) {
+        let set = u32::from_le_bytes([8, 9, 10, 11].map(|place| event[place]));
+        let minute = u32::from_le_bytes([0, 1, 2, 3].map(|place| event[place]));
+        for link in plan.links.iter().filter(|link| plan.watched(link.a)) {
+            if set >> link.a & 1 == 1 {
+                bytes.extend(record(minute, event[4], set | 1 << link.c));
+            }
+            if board::is_running(&at, link) {
+                let after = |p: i64| (at.minute(link.a) + p) as u32;
+                bytes.extend(record(after(link.x - 1), 255, 1 << link.c));
+                bytes.extend(record(after(link.y + 1), 255, 1 << link.c));
+                let v = draw.below(plan.points()) as u8;
+                bytes.extend(record(after(link.y + 1), v, 0));
+            }
+        }
+        bytes.extend(event);
+        at = event::take(plan, &at, &event).1;
+    }
+    bytes
 }
 
 /// What a stream is made of.

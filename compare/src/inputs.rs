@@ -49,7 +49,8 @@ pub fn batch(draw: &mut Draw, number: u64) -> Vec<Input> {
         0..=6 => passing_runs(draw),
         7..=8 => layered_runs(draw),
         9 => many_projections(draw),
-        10..=12 => haul_runs(draw),
+        10..=11 => haul_runs(draw),
+        12 => second_trucks(draw),
         13..=16 => small_plans(draw),
         17..=18 => sized_plans(draw),
         19 => limits(draw),
@@ -124,6 +125,28 @@ fn many_projections(draw: &mut Draw) -> Vec<Input> {
 fn haul_runs(draw: &mut Draw) -> Vec<Input> {
     let plan = plans::haul(draw);
     streams(draw, "the haul or close to it", &plan, 8)
+}
+
+/// Trucks that start when others arrive, near-misses of them, two that end at one point, and a ring of links.
+fn second_trucks(draw: &mut Draw) -> Vec<Input> {
+    let mut plan = plans::any_trucks(draw);
+    let mut inputs = streams(draw, "trucks that start when others arrive", &plan, 4);
+    for _ in 0..2 {
+        let mut part = plan.to_bytes();
+        damage::second_end(draw, &mut part);
+        let events = events_for(draw, &part, &plan);
+        inputs.push(input("a second end", joined(&part, &events)));
+        let events = events::hanging(draw, &plan);
+        let what = "each link that hangs on another, at its edges";
+        inputs.push(input(what, joined(&plan.to_bytes(), &events)));
+    }
+    plans::near_miss(draw, &mut plan);
+    inputs.extend(streams(draw, "such trucks, nearly", &plan, 2));
+    for length in [2, 3] {
+        let plan = plans::ringed(draw, length);
+        inputs.extend(streams(draw, "a ring of links", &plan, 1));
+    }
+    inputs
 }
 
 fn small_plans(draw: &mut Draw) -> Vec<Input> {
@@ -205,9 +228,10 @@ fn stuck_plans(draw: &mut Draw) -> Vec<Input> {
 
 /// A small plan with something of every kind, most of the time.
 pub fn small_good(draw: &mut Draw) -> Plan {
-    match draw.below(3) {
+    match draw.below(4) {
         0 => plans::haul(draw),
         1 => plans::passing(draw),
+        2 => plans::any_trucks(draw),
         _ => {
             let mut sizes = Sizes::small(draw);
             sizes.points += 2;

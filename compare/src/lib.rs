@@ -7,6 +7,7 @@ pub mod desk;
 pub mod draw;
 pub mod events;
 pub mod inputs;
+pub mod links;
 pub mod plans;
 pub mod player;
 pub mod printed;

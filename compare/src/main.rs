@@ -5,6 +5,7 @@
 use compare::count::{self, Count};
 use compare::draw::Draw;
 use compare::inputs::{self, Input};
+use compare::links;
 use compare::programs::{self, Both, Shown, Way};
 use compare::requests;
 use compare::smaller;
@@ -175,6 +176,11 @@ fn work(pairs: &[Both], shared: &Shared) -> io::Result<Option<Found>> {
                     return Ok(None);
                 }
                 let way = way(&mut draw, &input);
+                let of_links = if probe {
+                    links::of_requests(&input.bytes)
+                } else {
+                    links::of_input(&input.bytes)
+                };
                 for (both, count) in pairs.iter().zip(&mut counts) {
                     if !concerned(&both) {
                         continue;
@@ -191,6 +197,9 @@ fn work(pairs: &[Both], shared: &Shared) -> io::Result<Option<Found>> {
                         }));
                     }
                     count.add(&both.name, &ours.bytes);
+                    for key in &of_links {
+                        count.one(key.to_string());
+                    }
                 }
                 shared.compared.fetch_add(1, Ordering::Relaxed);
             }

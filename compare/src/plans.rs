@@ -1,6 +1,7 @@
 //! Draws plans that a file can hold: of any size, with a run hidden in them, passing the plan test, stuck, and far out.
 
 use crate::draw::Draw;
+use crate::links;
 use oracle::plan::{Link, Ordinary, Plan, Wait, BOUND};
 use oracle::plan_test::{self, Answer};
 
@@ -54,21 +55,38 @@ pub fn scale(draw: &mut Draw) -> i64 {
     draw.pick(&[2, 5, 5, 20, 100, 3_000, BOUND])
 }
 
-/// Any plan: with `hidden`, some choice of minutes keeps all its ordinary records as far as their bounds can say so.
+/// Where links start that end at these points: at the other points, or in half of them where one before it ends, so that
+/// each hangs on another point in the end.
+fn starts(draw: &mut Draw, ends: &[usize], others: &[usize]) -> Vec<usize> {
+    let form = draw.below(6);
+    let start = |k: usize| match form {
+        // One chain.
+        3 if k > 0 => ends[k - 1],
+        // Chains and forks.
+        4 | 5 if k > 0 && !draw.one_in(3) => ends[draw.below(k)],
+        _ => draw.pick(others),
+    };
+    (0..ends.len()).map(start).collect()
+}
+
+/// Any plan: with `hidden`, some choice of minutes keeps all its ordinary records as far as their bounds can say so. Without,
+/// links may start one another in a ring.
 pub fn any(draw: &mut Draw, sizes: Sizes, scale: i64, hidden: bool) -> Plan {
     let mut order: Vec<usize> = (0..sizes.points).collect();
     draw.shuffle(&mut order);
     let watched = sizes.links.min(sizes.points.saturating_sub(1));
-    let (ends, starts) = order.split_at(watched);
+    let (ends, others) = order.split_at(watched);
     let mut plan = Plan::default();
     for _ in 0..sizes.points {
         let pond = [0, 1, u32::MAX, draw.next() as u32];
         plan.ponds.push(draw.pick(&pond));
     }
-    for &c in ends {
+    let rings = !hidden && draw.one_in(6);
+    for (a, &c) in starts(draw, ends, others).into_iter().zip(ends) {
         let x = draw.edgy(1, scale.min(BOUND - 1));
         let y = draw.edgy(x + 1, (x + scale).min(BOUND));
-        let a = draw.pick(starts);
+        let other = draw.pick(ends);
+        let a = if rings && other != c { other } else { a };
         plan.links.push(Link { a, x, y, c });
     }
     let mut minutes: Vec<i64> = (0..sizes.points)
@@ -77,6 +95,8 @@ pub fn any(draw: &mut Draw, sizes: Sizes, scale: i64, hidden: bool) -> Plan {
     for link in &plan.links {
         minutes[link.c] = minutes[link.a] + draw.edgy(link.x, link.y);
     }
+    // What hangs on a link may stand before it in the file.
+    draw.shuffle(&mut plan.links);
     for (x, y) in pairs(draw, sizes.points).into_iter().take(sizes.ordinary) {
         let d = if hidden {
             minutes[y] - minutes[x] + draw.edgy(0, scale)
@@ -89,7 +109,7 @@ pub fn any(draw: &mut Draw, sizes: Sizes, scale: i64, hidden: bool) -> Plan {
     if !plan.links.is_empty() {
         for _ in 0..sizes.waits {
             let link = draw.pick(&plan.links);
-            let v = draw.pick(starts);
+            let v = draw.pick(others);
             if v != link.a {
                 let w = draw.edgy(1, link.y);
                 plan.waits.push(Wait { v, c: link.c, w });
@@ -132,18 +152,16 @@ pub fn roomy(draw: &mut Draw, sizes: Sizes) -> Plan {
             record.d = draw.between(0, scale * 40);
         }
     }
-    // A point that C comes before waits for C's A too, so A comes before it.
+    // A point that C comes before waits also for what C hangs on, so that comes before it.
+    let roots: Vec<Option<usize>> = (0..sizes.points).map(|y| links::root(&plan, y)).collect();
+    let before = |y: usize, x: usize| roots[y].is_some_and(|root| place[root] < place[x]);
     for record in &mut plan.ordinary {
-        let link = plan.links.iter().find(|link| link.c == record.y);
-        if link.is_some_and(|link| place[link.a] >= place[record.x]) {
+        let watched = plan.links.iter().any(|link| link.c == record.y);
+        if watched && !before(record.y, record.x) {
             record.d = BOUND;
         }
     }
-    let links = plan.links.clone();
-    plan.waits.retain(|wait| {
-        let link = links.iter().find(|link| link.c == wait.c);
-        link.is_some_and(|link| place[wait.v] > place[link.a])
-    });
+    plan.waits.retain(|wait| before(wait.c, wait.v));
     plan
 }
 
@@ -353,9 +371,9 @@ fn spans(draw: &mut Draw, links: usize, many: bool) -> Vec<i64> {
 
 /// A plan of any size that passes the test by its form, with `many` one that has about 4,096 projections. Its points are
 /// ends of links, late ones and calm ones. Negative steps start at late points (records down the list of late points, to
-/// ends and to calm ones, and waits) and at ends (to their A, which is calm). A step of zero or more leads to calm points,
-/// from which no negative step leads, and to ends from their A: so no shortest path needs a negative step after one that
-/// is not, and no cycle is negative.
+/// ends and to calm ones, and waits) and at ends (to their A, which is calm or another end, and no ring). A step of zero or
+/// more leads to calm points, from which no negative step leads, and to ends from their A, to which alone a negative step
+/// leads back: so no shortest path needs a negative step after one that is not, and no cycle is negative.
 pub fn layered(draw: &mut Draw, sizes: Sizes, many: bool) -> Plan {
     let links = sizes.links.min(sizes.points / 2);
     let mut spans = spans(draw, links, many);
@@ -369,12 +387,13 @@ pub fn layered(draw: &mut Draw, sizes: Sizes, many: bool) -> Plan {
     for _ in 0..sizes.points {
         plan.ponds.push(draw.next() as u32);
     }
-    for (&c, span) in ends.iter().zip(spans) {
+    let starts = starts(draw, ends, calm);
+    for ((&c, a), span) in ends.iter().zip(starts).zip(spans) {
         let x = draw.edgy(1, scale);
-        let a = draw.pick(calm);
         let y = x + span - 1;
         plan.links.push(Link { a, x, y, c });
     }
+    draw.shuffle(&mut plan.links);
     // Not all pairs will do, and those that have a record do not any more: it stops where few are left.
     for _ in 0..8 * sizes.ordinary {
         let down = !late.is_empty() && draw.one_in(2);
@@ -409,33 +428,33 @@ pub fn layered(draw: &mut Draw, sizes: Sizes, many: bool) -> Plan {
 
 /// A plan that passes the test by its form and joins every pair of points, so that it can have an ordinary record for each
 /// pair: with the sizes of `FULL` it is full. Each foreman's point comes within a window after one of them, the first, and
-/// each end hangs on its A: so a shortest path goes back to the first point and then forth. The other records and the waits
-/// say no more than that in any projection.
+/// each end hangs on its A, and so on one of them in the end: so a shortest path goes back, to the first point or to one on
+/// which both ends hang, and then forth. The other records and the waits say no more than that in any projection.
 pub fn star(draw: &mut Draw, sizes: Sizes, many: bool) -> Plan {
     let links = sizes.links.min(sizes.points / 2);
     let mut spans = spans(draw, links, many);
     spans.truncate(sizes.points / 2);
-    let scale = draw.pick(&[2, 5, 20, 100, 9_000]);
+    let scale = draw.pick(&[2, 5, 20, 100, 6_000]);
     let mut order: Vec<usize> = (0..sizes.points).collect();
     draw.shuffle(&mut order);
     let (ends, others) = order.split_at(spans.len());
     let first = others[0];
     // Links start soon, so that there is something to wait for later.
-    let starts = &others[..others.len().div_ceil(2)];
+    let soon = &others[..others.len().div_ceil(2)];
     let mut plan = Plan::default();
     for _ in 0..sizes.points {
         plan.ponds.push(draw.next() as u32);
     }
-    for (&c, span) in ends.iter().zip(spans) {
+    let starts = starts(draw, ends, soon);
+    for ((&c, a), span) in ends.iter().zip(starts).zip(spans) {
         let x = draw.edgy(1, scale);
-        let a = draw.pick(starts);
         let y = x + span - 1;
         plan.links.push(Link { a, x, y, c });
     }
     // How far back to the first point, and how far forth from it, at most in any projection.
     let (mut back, mut forth) = (vec![0; sizes.points], vec![0; sizes.points]);
     for &v in &others[1..] {
-        let late = if starts.contains(&v) { 0 } else { scale };
+        let late = if soon.contains(&v) { 0 } else { scale };
         let low = draw.edgy(late, late + scale);
         back[v] = -low;
         forth[v] = draw.edgy(low, low + scale);
@@ -444,11 +463,24 @@ pub fn star(draw: &mut Draw, sizes: Sizes, many: bool) -> Plan {
         back[link.c] = back[link.a] - link.x;
         forth[link.c] = forth[link.a] + link.y;
     }
-    let most = |x: usize, y: usize| match (plan.link_to(x), plan.link_to(y)) {
-        (Some(one), _) if one.a == y => -one.x,
-        (_, Some(two)) if two.a == x => two.y,
-        (Some(one), Some(two)) if one.a == two.a => two.y - one.x,
-        _ => back[x] + forth[y],
+    draw.shuffle(&mut plan.links);
+    // What a point hangs on, itself first, each with the least and the most that it comes before.
+    let hangs = |point: usize| {
+        let mut all = vec![(point, 0, 0)];
+        while let Some(link) = plan.link_to(all[all.len() - 1].0) {
+            let (_, least, most) = all[all.len() - 1];
+            all.push((link.a, least + link.x, most + link.y));
+        }
+        all
+    };
+    let most = |x: usize, y: usize| {
+        let (from, to) = (hangs(x), hangs(y));
+        for (both, least, _) in from {
+            if let Some((_, _, most)) = to.iter().find(|one| one.0 == both) {
+                return most - least;
+            }
+        }
+        back[x] + forth[y]
     };
     let (must, may): (Vec<_>, Vec<_>) =
         pairs(draw, sizes.points).into_iter().partition(|&(x, y)| {
@@ -503,15 +535,114 @@ pub fn late_cycle(draw: &mut Draw) -> Plan {
     }
 }
 
+/// Trucks of which each but the first starts when another arrives, so many of them in one chain or with a fork; after some of
+/// the arrivals comes a loading as in the haul, with its wait: it passes the test.
+pub fn trucks(draw: &mut Draw, drives: usize, fork: bool) -> Plan {
+    let scale = draw.pick(&[2, 5, 20, 90_000]);
+    let loaded: Vec<bool> = (0..drives).map(|_| !draw.one_in(3)).collect();
+    let loads = loaded.iter().filter(|is| **is).count();
+    let mut order: Vec<usize> = (0..2 + drives + loads).collect();
+    draw.shuffle(&mut order);
+    let (call, leaves) = (order[0], order[1]);
+    let (ends, mut loads) = order[2..].split_at(drives);
+    let mut plan = Plan {
+        ponds: vec![0; order.len()],
+        ..Plan::default()
+    };
+    let d = -draw.edgy(0, 10);
+    plan.ordinary.push(Ordinary {
+        x: leaves,
+        d,
+        y: call,
+    });
+    let spans = match drives {
+        2 | 3 => (0..drives).map(|_| draw.between(3, 5)).collect(),
+        _ => spans(draw, drives, false),
+    };
+    for (k, span) in spans.into_iter().enumerate() {
+        let a = match k {
+            0 => leaves,
+            // The fork is at the first arrival.
+            2 if fork => ends[0],
+            _ if fork => ends[draw.below(k)],
+            _ => ends[k - 1],
+        };
+        let c = ends[k];
+        let x = draw.edgy(1, scale);
+        let y = x + span - 1;
+        plan.links.push(Link { a, x, y, c });
+        if let (true, [v, rest @ ..]) = (loaded[k], loads) {
+            let v = *v;
+            loads = rest;
+            let (soon, late) = (draw.edgy(0, y - 1), draw.edgy(0, 20));
+            let after = [(c, late, v), (v, soon, c)];
+            let after = after.map(|(x, d, y)| Ordinary { x, d, y });
+            plan.ordinary.extend(after);
+            plan.waits.push(Wait { v, c, w: y - soon });
+        }
+    }
+    draw.shuffle(&mut plan.links);
+    draw.shuffle(&mut plan.ordinary);
+    draw.shuffle(&mut plan.waits);
+    plan
+}
+
+/// Such trucks, two to eight of them.
+pub fn any_trucks(draw: &mut Draw) -> Plan {
+    let drives = draw.pick(&[2, 2, 2, 3, 3, 4, 5, 8]);
+    let fork = drives > 2 && draw.one_in(2);
+    trucks(draw, drives, fork)
+}
+
+/// A small plan with a ring of so many links besides, and now and then a link that hangs on it.
+pub fn ringed(draw: &mut Draw, length: usize) -> Plan {
+    loop {
+        let mut plan = match draw.below(4) {
+            0 => haul(draw),
+            1 => passing(draw),
+            2 => trucks(draw, 2, false),
+            _ => {
+                let sizes = Sizes::small(draw);
+                any(draw, sizes, 9, true)
+            }
+        };
+        if plan.links.len() + length > FULL.links || plan.points() + length >= FULL.points {
+            continue;
+        }
+        let first = plan.points();
+        plan.ponds.resize(first + length, 0);
+        for k in 0..length {
+            let x = draw.between(1, 9);
+            let (a, y, c) = (first + k, x + 1, first + (k + 1) % length);
+            plan.links.push(Link { a, x, y, c });
+        }
+        if plan.links.len() < FULL.links && draw.one_in(2) {
+            let (a, x, y, c) = (first + draw.below(length), 1, 2, plan.points());
+            plan.ponds.push(0);
+            plan.links.push(Link { a, x, y, c });
+        }
+        draw.shuffle(&mut plan.links);
+        return plan;
+    }
+}
+
+/// A plan with a ring, most of two links or three.
+pub fn any_ringed(draw: &mut Draw) -> Plan {
+    let longer = 2 + draw.below(5);
+    let length = draw.pick(&[2, 2, 3, 3, longer]);
+    ringed(draw, length)
+}
+
 /// A plan that passes the test, of any of the forms above, most with links and waits.
 pub fn that_passes(draw: &mut Draw) -> Plan {
     loop {
-        let plan = match draw.below(9) {
+        let plan = match draw.below(11) {
             0 => haul(draw),
             1 => far_haul(draw),
             2 | 3 => passing(draw),
             4 | 5 => passing_larger(draw),
             6 => chain(draw),
+            7 | 8 => any_trucks(draw),
             _ => {
                 let sizes = Sizes::any(draw);
                 layered(draw, sizes, false)
@@ -520,6 +651,16 @@ pub fn that_passes(draw: &mut Draw) -> Plan {
         if matches!(plan_test::plan_test(&plan), Ok(Answer::Yes(_))) {
             return plan;
         }
+    }
+}
+
+/// The plan of a game, or of sheets, with this number: one that passes the test, some of them with a fork of links or a chain
+/// of eight, so that each dozen has both.
+pub fn of_number(draw: &mut Draw, number: u64) -> Plan {
+    match number % 12 {
+        3 => trucks(draw, 3, true),
+        7 => trucks(draw, 8, false),
+        _ => that_passes(draw),
     }
 }
 
@@ -543,7 +684,8 @@ pub fn chain(draw: &mut Draw) -> Plan {
     plan
 }
 
-/// A plan that gets stuck, at once or later: a cycle of negative sum behind a few free points, or a High below zero.
+/// A plan that gets stuck, at once or later: a cycle of negative sum behind a few free points, a High below zero, or a ring of
+/// links, which nothing starts.
 pub fn stuck(draw: &mut Draw) -> Plan {
     let free = draw.below(4);
     let mut plan = Plan {
@@ -552,10 +694,15 @@ pub fn stuck(draw: &mut Draw) -> Plan {
     };
     let (v, u) = (free, free + 1);
     let d = draw.between(1, 9);
-    match draw.below(3) {
+    match draw.below(4) {
         0 => {
             plan.ordinary.push(Ordinary { x: v, d: -d, y: u });
             plan.ordinary.push(Ordinary { x: u, d: -d, y: v });
+        }
+        3 => {
+            let (x, y) = (d, d + 1);
+            plan.links.push(Link { a: v, x, y, c: u });
+            plan.links.push(Link { a: u, x, y, c: v });
         }
         1 => {
             plan.ordinary.push(Ordinary { x: v, d: -d, y: u });
@@ -615,6 +762,9 @@ mod tests {
                 passing_larger(draw),
                 chain(draw),
                 stuck(draw),
+                any(draw, sizes, scale, false),
+                any_trucks(draw),
+                any_ringed(draw),
             ];
             for plan in all {
                 assert_eq!(oracle::plan::read(&plan.to_bytes()), Ok(plan));
@@ -645,6 +795,49 @@ mod tests {
             ));
         }
         assert!(full > 7 && late > 7, "{full} {late}");
+    }
+
+    /// Of all that is drawn enough has links that start where others end; trucks pass the test, and a ring is a cycle at 0.
+    #[test]
+    fn chains_forks_and_rings() {
+        let mut seen = [[0; links::SHAPES.len()]; 5];
+        for batch in 0..200 {
+            let draw = &mut Draw::new(8, batch);
+            let sizes = Sizes::any(draw);
+            let (trucks, ringed) = (any_trucks(draw), any_ringed(draw));
+            let answer = plan_test::plan_test(&trucks);
+            assert!(
+                matches!(answer, Ok(Answer::Yes(_))),
+                "{answer:?} {trucks:?}"
+            );
+            assert!(links::ringed(&ringed));
+            assert_eq!(plan_test::plan_test(&ringed), Ok(Answer::Cycle(0)));
+            let all = [
+                trucks,
+                ringed,
+                of_number(draw, batch),
+                any(draw, sizes, 9, false),
+                roomy(draw, sizes),
+            ];
+            for (plan, seen) in all.iter().zip(&mut seen) {
+                let shapes = links::shapes(plan);
+                for (shape, seen) in links::SHAPES.iter().zip(seen) {
+                    *seen += usize::from(shapes.contains(shape));
+                }
+            }
+        }
+        let [trucks, ringed, passing, any, roomy] = seen;
+        assert!(
+            trucks[0] == 200 && trucks[1] > 10 && trucks[2] > 20,
+            "{seen:?}"
+        );
+        assert!(ringed[3] > 50 && ringed[4] > 50, "{seen:?}");
+        assert!(passing[..3].iter().all(|seen| *seen > 10), "{seen:?}");
+        assert!(passing[0] > 50 && passing[3..] == [0, 0], "{seen:?}");
+        assert!(
+            any.iter().all(|seen| *seen > 0) && roomy[0] > 30,
+            "{seen:?}"
+        );
     }
 
     #[test]

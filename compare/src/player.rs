@@ -4,6 +4,7 @@
 
 use crate::draw::Draw;
 use crate::events::{record, Record};
+use crate::links::{self, STARTS};
 use crate::printed::{Board, Place, Reply};
 use oracle::plan::{Link, Plan};
 
@@ -148,6 +149,16 @@ impl Player<'_> {
                 _ if p == Some(link.y) => "the longest duration",
                 _ => "a duration between",
             });
+            if links::hangs(self.plan, link) {
+                self.met.push("a link that hangs on another ends");
+            }
+            let others = self.plan.links.iter().filter(|other| other.a == link.c);
+            match (others.count(), point) {
+                (0, _) => {}
+                (1, None) => self.met.push(STARTS),
+                (1, _) => self.met.push("so with the foreman's point"),
+                _ => self.met.push("an end starts two links"),
+            }
         }
         let bits = set.iter().map(|&c| 1u32 << c).sum();
         let foreman = point.map_or(255, |point| point as u8);

@@ -5,6 +5,7 @@ use crate::damage;
 use crate::draw::Draw;
 use crate::events;
 use crate::inputs::Input;
+use crate::links;
 use crate::plans::{self, Sizes, FULL};
 use oracle::board::{Board, PLACES};
 use oracle::event;
@@ -105,11 +106,13 @@ pub fn batch(draw: &mut Draw, number: u64) -> Vec<Input> {
 
 /// A plan that a file can hold.
 fn good_plan(draw: &mut Draw) -> Plan {
-    match draw.below(8) {
+    match draw.below(11) {
         0 => plans::haul(draw),
         1 => plans::passing(draw),
         2 => plans::chain(draw),
         3 => plans::stuck(draw),
+        6 | 7 => plans::any_trucks(draw),
+        8 => plans::any_ringed(draw),
         4 => {
             let sizes = Sizes::any(draw);
             plans::layered(draw, sizes, false)
@@ -144,7 +147,8 @@ fn set_done(board: &mut Board, point: usize, minute: i64) {
 /// Ends running links that would have run out, anywhere in their bounds.
 fn settled(draw: &mut Draw, plan: &Plan, mut board: Board) -> Board {
     board = clocked(board);
-    for link in &plan.links {
+    // What hangs on a link runs from its end, and may have run out too.
+    for link in plan.links.iter().cycle().take(plan.links.len().pow(2)) {
         let from = board.minute(link.a);
         let runs = board.is_done(link.a) && !board.is_done(link.c);
         if runs && from + link.y < board.clock() {
@@ -165,8 +169,11 @@ fn sound(draw: &mut Draw, plan: &Plan) -> Board {
             set_done(&mut board, point, draw.edgy(0, scale));
         }
     }
-    for link in plan.links.iter() {
-        if board.is_done(link.a) && (all || draw.one_in(2)) {
+    let ends: Vec<bool> = plan.links.iter().map(|_| all || draw.one_in(2)).collect();
+    // A link that hangs on another comes after it.
+    let links = plan.links.iter().zip(ends).cycle();
+    for (link, ends) in links.take(plan.links.len().pow(2)) {
+        if ends && board.is_done(link.a) && !board.is_done(link.c) {
             let minute = board.minute(link.a) + draw.edgy(link.x, link.y);
             set_done(&mut board, link.c, minute);
         }
@@ -432,9 +439,11 @@ fn tests(draw: &mut Draw) -> Vec<Input> {
             requests.plan(&plans::layered(draw, sizes, true));
             requests.call(TEST);
         }
-        let mut plan = match draw.below(3) {
+        let mut plan = match draw.below(5) {
             0 => plans::haul(draw),
             1 => plans::passing(draw),
+            2 => plans::any_trucks(draw),
+            3 => plans::any_ringed(draw),
             _ => plans::passing_larger(draw),
         };
         for _ in 0..6 {
@@ -552,7 +561,11 @@ fn list(draw: &mut Draw, plan: &Plan, at: &Board) -> Vec<Bound> {
 fn lists(draw: &mut Draw) -> Vec<Input> {
     let mut inputs = Vec::new();
     for _ in 0..4 {
-        let plan = good_plan(draw);
+        let mut plan = good_plan(draw);
+        while links::ringed(&plan) {
+            // Nothing finishes a ring.
+            plan = good_plan(draw);
+        }
         let mut requests = Requests::default();
         requests.plan(&plan);
         for _ in 0..6 {
@@ -680,6 +693,10 @@ fn spoiled_file(draw: &mut Draw, plan: &Plan) -> Vec<u8> {
     let mut part = plan.to_bytes();
     if draw.one_in(6) {
         one_too_many(draw, &mut part);
+        return part;
+    }
+    if draw.one_in(6) {
+        damage::second_end(draw, &mut part);
         return part;
     }
     for _ in 0..draw.below(3) {

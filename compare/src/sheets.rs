@@ -4,6 +4,7 @@
 
 use crate::draw::Draw;
 use crate::events::{record, Record, MARK};
+use crate::links;
 use oracle::plan::{Link, Plan, BOUND};
 use oracle::plan_test::{self, Edge};
 
@@ -104,9 +105,16 @@ impl Sheet {
 }
 
 /// What must come up in a run over many plans.
-pub const EXPECTED: [&str; 36] = [
+pub const EXPECTED: [&str; 43] = [
     "plans with links",
     "plans with waits",
+    links::SHAPES[0],
+    links::SHAPES[1],
+    links::SHAPES[2],
+    "a link from an end, at its bound",
+    "a link from an end, between",
+    "a link from an end, one too short or long",
+    "an end in the event that starts it",
     "good sheets",
     "a record at its bound",
     "a wait at its w",
@@ -153,6 +161,7 @@ pub fn drawn(draw: &mut Draw, plan: &Plan) -> Vec<Sheet> {
         let order = [Order::Plain, Order::Any, Order::Joined][round];
         sheets.push(played(draw, plan, &minutes, order));
         sheets.extend(out_of_order(draw, plan, &minutes));
+        sheets.extend(with_its_start(draw, plan, &minutes));
     }
     let missed = [
         first(draw, plan),
@@ -468,6 +477,34 @@ fn out_of_order(draw: &mut Draw, plan: &Plan, minutes: &[i64]) -> Option<Sheet> 
     })
 }
 
+/// A good sheet but for a C that is put into the event that starts its link, at that minute: it must get 25, and so must not
+/// 26, which says that the minute is too soon.
+fn with_its_start(draw: &mut Draw, plan: &Plan, minutes: &[i64]) -> Option<Sheet> {
+    let hanging = plan.links.iter().filter(|link| links::hangs(plan, link));
+    let hanging: Vec<&Link> = hanging.collect();
+    if hanging.is_empty() {
+        return None;
+    }
+    let link = draw.pick(&hanging);
+    let mut events = events(draw, plan, minutes, Order::Any);
+    for event in &mut events {
+        event.watched.retain(|&c| c != link.c);
+        if event.watched.contains(&link.a) {
+            event.watched.push(link.c);
+        }
+    }
+    events.retain(|event| event.points().count() > 0);
+    let to = events
+        .iter()
+        .position(|event| event.watched.contains(&link.c))?;
+    Some(Sheet {
+        minutes: minutes.to_vec(),
+        events,
+        due: Due::RefusedAt(to, 25),
+        met: vec!["an end in the event that starts it"],
+    })
+}
+
 // --- What a sheet is an instance of ---
 
 fn features(plan: &Plan, minutes: &[i64], events: &[Event], order: Order) -> Vec<&'static str> {
@@ -486,6 +523,10 @@ fn features(plan: &Plan, minutes: &[i64], events: &[Event], order: Order) -> Vec
         add(p == link.x, "the shortest duration");
         add(link.x < p && p < link.y, "a duration between");
         add(p == link.y, "the longest duration");
+        let hangs = links::hangs(plan, link);
+        let between = link.x < p && p < link.y;
+        add(hangs && !between, "a link from an end, at its bound");
+        add(hangs && between, "a link from an end, between");
     }
     for one in &plan.ordinary {
         add(
@@ -552,7 +593,13 @@ fn misses(plan: &Plan, minutes: &[i64], faults: &[Fault]) -> Vec<&'static str> {
         }
         _ => "more than one fault",
     };
-    vec!["near misses", which]
+    let mut met = vec!["near misses", which];
+    if let [Fault::Short(link, 1) | Fault::Long(link, 1)] = faults {
+        if links::hangs(plan, link) {
+            met.push("a link from an end, one too short or long");
+        }
+    }
+    met
 }
 
 // --- What must be printed ---
@@ -637,10 +684,16 @@ mod tests {
                 let count = faults(&plan, &sheet.minutes).len();
                 assert_eq!(count, usize::from(sheet.due == Due::Refused));
                 let mut seen: Vec<usize> = Vec::new();
+                // A C put into the event that starts its link is the only one at another minute.
+                let moved = match sheet.due {
+                    Due::RefusedAt(k, 25) => sheet.events[k].watched.last().copied(),
+                    _ => None,
+                };
                 for event in &sheet.events {
                     assert!(event
                         .points()
-                        .all(|&point| sheet.minutes[point] == event.minute));
+                        .all(|&point| (sheet.minutes[point] == event.minute)
+                            != (moved == Some(point))));
                     seen.extend(event.points());
                 }
                 seen.sort_unstable();

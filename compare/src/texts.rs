@@ -3,6 +3,7 @@
 use crate::asks::{self, ask, Ask};
 use crate::draw::Draw;
 use crate::inputs;
+use crate::links;
 use crate::plans::{self, Sizes, FULL};
 use oracle::import::import;
 use oracle::plan::{Plan, OLD_ORDINARIES, RECORD, ROOM};
@@ -198,10 +199,15 @@ fn good(draw: &mut Draw) -> Vec<Ask> {
         plans::passing_larger(draw),
         plans::star(draw, sizes, false),
         plans::full(draw),
+        plans::trucks(draw, 3, true),
+        plans::trucks(draw, 8, false),
+        plans::ringed(draw, 2),
+        plans::ringed(draw, 3),
     ];
     let mut asks = Vec::new();
     for (k, plan) in plans.into_iter().enumerate() {
         let (records, ordinary) = (plan.records(), plan.ordinary.len());
+        let shapes = links::shapes(&plan);
         let style = match k {
             0 => Style {
                 quoted: 2,
@@ -215,6 +221,7 @@ fn good(draw: &mut Draw) -> Vec<Ask> {
         let mut cases = Vec::new();
         let end = if text.ended { "with" } else { "without" };
         cases.push(case(&format!("a last line {end} CR LF")));
+        cases.extend(shapes.into_iter().map(case));
         let has = |test: &dyn Fn(&[u8]) -> bool| text.lines.iter().flatten().any(|one| test(one));
         if has(&|field| field.starts_with(b"\"")) {
             cases.push(case("quoted fields"));

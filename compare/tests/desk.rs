@@ -2,13 +2,14 @@
 
 use compare::asks::{self, Ask};
 use compare::desk::{self, Compared, Limits};
+use compare::links;
 use compare::programs::{self, Shown, Way};
 use compare::smaller;
 use oracle::board::{self, Board, Outcome, Place};
 use oracle::desk::{wrong_usage, Said, Verb};
 use oracle::event;
 use oracle::import::{fields, import, lines};
-use oracle::plan::{self, Ordinary, Plan, BOUND, OLD_ORDINARIES};
+use oracle::plan::{self, Link, Ordinary, Plan, BOUND, OLD_ORDINARIES};
 use oracle::plan_test::{self, Answer, Fault, Odometer};
 use oracle::worst::{self, Worst};
 use oracle::{close, Refusal};
@@ -158,7 +159,14 @@ fn named(text: &[u8], line: u32) -> &[u8] {
 type Imported = Result<Plan, Refusal>;
 type Importer = fn(&[u8]) -> Imported;
 
-const IMPORTERS: [(&str, Importer); 27] = [
+const IMPORTERS: [(&str, Importer); 28] = [
+    ("a link from an end is refused", |text| {
+        let plan = import(text)?;
+        match old_10(&plan.to_bytes()) {
+            Some(record) => Err((10, record as u32)),
+            None => Ok(plan),
+        }
+    }),
     ("LF alone ends a line", |text| {
         import(&with_ends(text, b'\n'))
     }),
@@ -454,7 +462,24 @@ fn extreme(plan: &Plan, durations: &[i64]) -> bool {
 
 type Worster = fn(&Plan) -> Result<Worst, u32>;
 
-const WORSTS: [(&str, Worster); 5] = [
+const WORSTS: [(&str, Worster); 6] = [
+    ("links from an end take no time", |plan| {
+        let right = worst::worst(plan)?;
+        let all = (0..).zip(Odometer::new(plan)).map(|(number, p)| {
+            let mut run = worst::run(plan, &p).map_or(Board::fresh(), |run| run.last);
+            for link in plan.links.iter().filter(|link| links::hangs(plan, link)) {
+                run.minutes[link.c] = 0;
+            }
+            (number, run.minutes.iter().copied().max().unwrap_or(0))
+        });
+        let all: Vec<_> = all.collect();
+        let worst = first_largest(&all);
+        Ok(if links::shapes(plan).is_empty() {
+            right
+        } else {
+            worst
+        })
+    }),
     ("the last projection of equal minutes", |plan| {
         let right = worst::worst(plan)?;
         let all = minutes(plan, |_| true);
@@ -516,6 +541,10 @@ enum Otherwise {
     OnTheAimApart,
     BeforeTheAimForgotten,
     OneAtATime,
+    /// A link that hangs on another is counted from where that one started.
+    FromTheFirstStart,
+    /// A link that hangs on another ends in the event that starts it, the other's duration being longer by its own.
+    EndsWhereItStarts,
 }
 
 /// The events of a run that does something otherwise.
@@ -528,8 +557,14 @@ fn run_otherwise(plan: &Plan, durations: &[i64], otherwise: Otherwise) -> Vec<[u
         }
         let links = plan.links.iter().zip(durations);
         let running = links.filter(|(link, _)| board::is_running(&at, link));
+        let started = |link: &Link| match plan.link_to(link.a) {
+            Some(first) if otherwise == Otherwise::FromTheFirstStart => {
+                at.minute(first.a).max(at.clock() - link.x)
+            }
+            _ => at.minute(link.a),
+        };
         let falls: Vec<(i64, usize)> = running
-            .map(|(link, p)| (at.minute(link.a) + p, link.c))
+            .map(|(link, p)| (started(link) + p, link.c))
             .collect();
         let next = falls.iter().min().map(|fall| fall.0);
         let offered = (0..)
@@ -560,13 +595,22 @@ fn run_otherwise(plan: &Plan, durations: &[i64], otherwise: Otherwise) -> Vec<[u
             _ => now.fold(0, |set, fall| set | 1u32 << fall.1),
         };
         let foreman = if apart && set != 0 { 255 } else { foreman };
+        let hung = plan.links.iter().filter(|link| set >> link.a & 1 == 1);
+        let hung = match otherwise {
+            Otherwise::EndsWhereItStarts => hung.fold(0, |hung, link| hung | 1u32 << link.c),
+            _ => 0,
+        };
         let event = compare::events::record(minute as u32, foreman, set);
         let (number, after) = event::take(plan, &at, &event);
         if number != 0 {
             break;
         }
-        events.push(event);
         at = after;
+        for c in (0..plan.points()).filter(|c| hung >> c & 1 == 1) {
+            at.done |= 1 << c;
+            at.minutes[c] = minute as u32;
+        }
+        events.push(compare::events::record(minute as u32, foreman, set | hung));
     }
     events
 }
@@ -579,7 +623,15 @@ fn wrong_days_are_found() {
         let durations = Odometer::new(plan).nth(number as usize);
         durations.map_or(Vec::new(), |p| run_otherwise(plan, &p, otherwise))
     }
-    let events: [(&str, Events); 7] = [
+    let events: [(&str, Events); 9] = [
+        (
+            "a link from an end is counted from the first start",
+            |plan, number| otherwise(plan, number, Otherwise::FromTheFirstStart),
+        ),
+        (
+            "a link from an end ends in the event that starts it",
+            |plan, number| otherwise(plan, number, Otherwise::EndsWhereItStarts),
+        ),
         ("aims at the highest offered minute", |plan, number| {
             otherwise(plan, number, Otherwise::HighestMinute)
         }),
@@ -668,7 +720,29 @@ fn right_fault(plan: &Plan, durations: &[i64]) -> Option<Fault> {
     plan_test::fault(plan.points(), &plan_test::edges(plan, durations))
 }
 
-const TESTERS: [(&str, Tester); 6] = [
+const TESTERS: [(&str, Tester); 8] = [
+    ("a ring passes", |plan| {
+        tested(plan, |p| {
+            right_fault(plan, p).filter(|fault| *fault != Fault::Cycle || !links::ringed(plan))
+        })
+    }),
+    (
+        "links from an end have the durations of the link before",
+        |plan| {
+            tested(plan, |p| {
+                let own = |link: &Link| match plan.link_to(link.a) {
+                    Some(first) => plan.links.iter().position(|one| *one == first),
+                    None => plan.links.iter().position(|one| one == link),
+                };
+                let durations: Vec<i64> = plan
+                    .links
+                    .iter()
+                    .map(|link| own(link).map_or(link.x, |k| p[k]).clamp(link.x, link.y))
+                    .collect();
+                right_fault(plan, &durations)
+            })
+        },
+    ),
     ("only the shortest and longest durations", |plan| {
         tested(plan, |p| right_fault(plan, p).filter(|_| extreme(plan, p)))
     }),
@@ -737,6 +811,18 @@ fn wrong_tests_are_found() {
     }
 }
 
+/// The first link of an accepted plan that document 01 refused: its A ends an earlier one, or its C starts one.
+fn old_10(input: &[u8]) -> Option<usize> {
+    let plan = plan::read(input).ok()?;
+    let clash = |k: &usize| {
+        let new = plan.links[*k];
+        let old = |old: &Link| old.a == new.c || old.c == new.a;
+        plan.links[..*k].iter().any(old)
+    };
+    let first = (0..plan.links.len()).find(clash)?;
+    Some(plan.points() + first)
+}
+
 #[test]
 fn wrong_readers_and_outputs_are_found() {
     type Changed = fn(&[u8]) -> Vec<u8>;
@@ -761,6 +847,37 @@ fn wrong_readers_and_outputs_are_found() {
                 })
             });
         }
+        if verb != "close" {
+            // The rule of document 01: an A that ends a link, or a C that starts one.
+            found(verb, "a link from an end is refused", &|ask| {
+                of_verb(verb, ask, |input| match old_10(input) {
+                    Some(record) => {
+                        let refusal = format!("plan 10 {record}");
+                        match verb {
+                            "test" | "worst" => line(refusal, 1),
+                            _ => file(Err(refusal)),
+                        }
+                    }
+                    None => right(ask),
+                })
+            });
+        }
+        found(verb, "a second end counts for nothing", &|ask| {
+            let mut input = ask.input.clone();
+            while let Err((10, record)) = plan::read(&input) {
+                let at = record as usize * 16;
+                if input[at] != 2 {
+                    break;
+                }
+                input.drain(at..at + 16);
+            }
+            right(&Ask {
+                what: String::new(),
+                words: ask.words.clone(),
+                input,
+                cases: Vec::new(),
+            })
+        });
         found(verb, "the old limit", &|ask| {
             of_verb(verb, ask, |input| {
                 match plan::read_with(OLD_ORDINARIES, input) {

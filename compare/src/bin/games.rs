@@ -4,6 +4,7 @@
 use compare::count::Count;
 use compare::draw::Draw;
 use compare::events::MARK;
+use compare::links;
 use compare::plans;
 use compare::player::Player;
 use compare::printed::{self, Place, Printed, Reply};
@@ -22,11 +23,18 @@ const KEPT: &str = "compare/kept";
 const STEPWISE: u64 = 8;
 
 /// What must come up in a run of many games.
-const EXPECTED: [&str; 16] = [
+const EXPECTED: [&str; 23] = [
     "games from predicted replies",
     "games from printed replies",
     "with links",
     "with waits",
+    links::SHAPES[0],
+    links::SHAPES[1],
+    links::SHAPES[2],
+    links::STARTS,
+    "so with the foreman's point",
+    "an end starts two links",
+    "a link that hangs on another ends",
     "the foreman takes a Low",
     "the foreman takes a minute between",
     "the foreman takes the latest",
@@ -70,7 +78,7 @@ fn play(seed: u64, games: u64, words: &[String]) -> io::Result<bool> {
     let (mut points, mut events) = (0, 0);
     for game in 0..games {
         let draw = &mut Draw::new(seed, game);
-        let plan = plans::that_passes(draw);
+        let plan = plans::of_number(draw, game);
         let mut player = Player::new(draw, &plan);
         let wrong = if game % STEPWISE == 0 {
             count.one("games from printed replies".to_string());
@@ -94,7 +102,8 @@ fn play(seed: u64, games: u64, words: &[String]) -> io::Result<bool> {
             ("with waits", plan.waits.len()),
         ];
         let kinds = kinds.iter().filter(|(_, records)| *records > 0);
-        for key in kinds.map(|(key, _)| *key).chain(player.met) {
+        let kinds = kinds.map(|(key, _)| *key).chain(links::shapes(&plan));
+        for key in kinds.chain(player.met) {
             count.one(key.to_string());
         }
     }

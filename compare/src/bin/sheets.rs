@@ -4,6 +4,7 @@
 
 use compare::count::Count;
 use compare::draw::Draw;
+use compare::links;
 use compare::plans;
 use compare::printed::{self, Place, Reply};
 use compare::programs::{self, Both, Way};
@@ -94,10 +95,10 @@ fn play(pairs: &[Both], seed: u64, plans: u64) -> io::Result<bool> {
     // What only one of the programs shows is not waited for where that is left out.
     let runs = |name: &str| pairs.iter().any(|both| both.name == name);
     let shown = |key: &&str| match *key {
-        TRIED | TAKEN => runs("probe"),
+        TRIED | TAKEN | CHAINED => runs("probe"),
         key => runs("sheet") || !key.starts_with("refused with"),
     };
-    let expected = EXPECTED.into_iter().chain([TRIED, TAKEN]);
+    let expected = EXPECTED.into_iter().chain([TRIED, TAKEN, CHAINED]);
     let expected: Vec<&str> = expected.filter(shown).collect();
     for key in &expected {
         println!("{key:<36}{:>10}", count.of(key));
@@ -136,9 +137,9 @@ impl Worker<'_> {
                 break;
             }
             let draw = &mut Draw::new(seed, number);
-            wrong = self.drawn(draw)?;
+            wrong = self.drawn(draw, number)?;
             if wrong.is_none() && number % TINY == TINY - 1 {
-                wrong = self.tiny(draw)?;
+                wrong = self.tiny(draw, number / TINY % 2 == 0)?;
             }
             if wrong.is_some() {
                 next.store(plans, Ordering::Relaxed);
@@ -152,8 +153,8 @@ impl Worker<'_> {
     }
 
     /// The sheets of one plan, through every program.
-    fn drawn(&mut self, draw: &mut Draw) -> io::Result<Option<Wrong>> {
-        let plan = plans::that_passes(draw);
+    fn drawn(&mut self, draw: &mut Draw, number: u64) -> io::Result<Option<Wrong>> {
+        let plan = plans::of_number(draw, number);
         let sheets = sheets::drawn(draw, &plan);
         for pair in self.pairs {
             let wrong = match pair.name.as_str() {
@@ -169,7 +170,9 @@ impl Worker<'_> {
             ("plans with links", plan.links.len()),
             ("plans with waits", plan.waits.len()),
         ];
-        for (key, _) in kinds.iter().filter(|(_, records)| *records > 0) {
+        let kinds = kinds.iter().filter(|(_, records)| *records > 0);
+        let kinds = kinds.map(|(key, _)| *key);
+        for key in kinds.chain(links::shapes(&plan)) {
             self.one(key);
         }
         for key in sheets.iter().flat_map(|sheet| &sheet.met) {
@@ -210,22 +213,28 @@ impl Worker<'_> {
         Ok(None)
     }
 
-    /// All choices of minutes of a tiny plan up to some minute: taken whole exactly where the sheet is good.
-    fn tiny(&mut self, draw: &mut Draw) -> io::Result<Option<Wrong>> {
+    /// All choices of minutes of a tiny plan up to some minute: taken whole exactly where the sheet is good. With
+    /// `chained` a link starts where another ends.
+    fn tiny(&mut self, draw: &mut Draw, chained: bool) -> io::Result<Option<Wrong>> {
         let Some(both) = self.pairs.iter().find(|both| both.name == "probe") else {
             return Ok(None);
         };
-        let plan = loop {
+        let (plan, past) = loop {
             let plan = plans::passing(draw);
-            if plan.points() <= 4 && !plan.links.is_empty() {
-                break plan;
+            let points = plan.points() as u32;
+            let past = (2..)
+                .take_while(|past: &i64| past.pow(points) <= CHOICES)
+                .last();
+            let past = past.unwrap_or(2);
+            let chain = links::shapes(&plan).contains(&links::CHAIN);
+            // So short that some minutes may be good.
+            let least: i64 = plan.links.iter().map(|link| link.x).sum();
+            let short = !chained || least + 2 <= past;
+            if points <= 4 && !plan.links.is_empty() && chain == chained && short {
+                break (plan, past);
             }
         };
         let points = plan.points() as u32;
-        let past = (2..)
-            .take_while(|past: &i64| past.pow(points) <= CHOICES)
-            .last();
-        let past = past.unwrap_or(2);
         let mut requests = Requests::default();
         requests.plan(&plan);
         // The buffer is filled once: each choice has as many events as there are points.
@@ -243,6 +252,9 @@ impl Worker<'_> {
             if good {
                 self.one(TAKEN);
             }
+            if good && chained {
+                self.one(CHAINED);
+            }
             wanted.push((minutes, good));
         }
         let wanted: Vec<_> = wanted
@@ -256,6 +268,7 @@ impl Worker<'_> {
 /// All choices of minutes of tiny plans, and those that are good and were taken.
 const TRIED: &str = "choices of minutes of tiny plans";
 const TAKEN: &str = "of these good";
+const CHAINED: &str = "and with a chain of links";
 
 fn wrong(both: &Both, input: Vec<u8>, what: String) -> Option<Wrong> {
     let name = both.name.clone();

@@ -96,9 +96,27 @@ const ALL: &[Wrong] = &[
     ),
     wrong(
         "sheet",
-        "an A may end another link",
-        "|| has(s->watched, r->a)) return 10;\n            if (r->first < 1 || r->first >= r->second",
-        ") return 10;\n            if (r->first < 1 || r->first >= r->second",
+        "an A that ends another link is refused",
+        "if (has(s->watched, r->b)) return 10;\n            if (r->first < 1 || r->first >= r->second",
+        "if (has(s->watched, r->b) || has(s->watched, r->a)) return 10;\n            if (r->first < 1 || r->first >= r->second",
+    ),
+    wrong(
+        "sheet",
+        "two links may end at one point",
+        "if (has(s->watched, r->b)) return 10;\n            if (r->first < 1 || r->first >= r->second",
+        "if (r->first < 1 || r->first >= r->second",
+    ),
+    wrong(
+        "sheet",
+        "a link may end in the event that starts it",
+        "|| has(b->done, c)) return 25;",
+        "|| has(b->done, c)) {
+            bool starts = false;
+            for (u32 k = 0; k < p->count; k++)
+                if (p->records[k].kind == 2 && p->records[k].b == c && has(set, p->records[k].a)) starts = true;
+            if (!starts) return 25;
+            continue;
+        }",
     ),
     wrong(
         "sheet",
@@ -150,8 +168,9 @@ const ALL: &[Wrong] = &[
     wrong(
         "sheet",
         "a link has twins",
-        "s->starts |= 1u << r->a;",
-        "s->starts |= 1u << r->a, s->joined[r->a] |= 1u << r->b;",
+        "if (r->first < 1 || r->first >= r->second",
+        "s->joined[r->a] |= 1u << r->b;
+            if (r->first < 1 || r->first >= r->second",
     ),
     wrong(
         "sheet",
@@ -623,7 +642,7 @@ fn find_by_sheets(words: &[String], seed: u64, patience: Duration) -> io::Result
     let mut after = 0;
     for batch in 0.. {
         let draw = &mut Draw::new(seed, batch);
-        let plan = plans::that_passes(draw);
+        let plan = plans::of_number(draw, batch);
         for sheet in sheets::drawn(draw, &plan) {
             after += 1;
             let shown = programs::run(words, &sheet.input(&plan))?;

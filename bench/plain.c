@@ -32,7 +32,7 @@ static u32 word_at(const u8 *b) { return b[0] | b[1] << 8 | b[2] << 16 | (u32)b[
 static void put_word(u8 *b, u32 x) { b[0] = x; b[1] = x >> 8; b[2] = x >> 16; b[3] = x >> 24; }
 
 // What the records so far have said.
-typedef struct { u8 kind; u32 counts[5], starts, watched, joined[POINTS]; u8 from[POINTS]; i32 longest[POINTS]; } seen;
+typedef struct { u8 kind; u32 counts[5], watched, joined[POINTS]; u8 from[POINTS]; i32 longest[POINTS]; } seen;
 
 // The number of the next record, 0 if it is good; then it counts as seen.
 static u32 next_record(seen *s, const record *r, u8 reserved) {
@@ -51,9 +51,8 @@ static u32 next_record(seen *s, const record *r, u8 reserved) {
         if (r->a >= points || r->b >= points) return 8;
         if (r->a == r->b) return 9;
         if (r->kind == LINK) {
-            if (has(s->starts | s->watched, r->b) || has(s->watched, r->a)) return 10;
+            if (has(s->watched, r->b)) return 10;
             if (r->first < 1 || r->first >= r->second || r->second > FARTHEST) return 11;
-            s->starts |= 1u << r->a;
             s->watched |= 1u << r->b;
             s->from[r->b] = r->a;
             s->longest[r->b] = r->second;

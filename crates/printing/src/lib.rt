@@ -8,14 +8,14 @@ ghost use Prim.Native.Nat.{_*_, _≤_, _<_};
 ghost use lib.ListN.{length};
 ghost use Rattle.plan.specs.Limits.{recordBytes};
 
-mod lines;
+mod out;
 mod said;
 mod say;
 
 use board::SAID;
 use libc::STDIN_FILENO;
-use lines::Out;
-use lines::flush;
+use out::Out;
+use out::flush;
 use said::AT_ONCE;
 use said::lines_of;
 use say::end;

@@ -2,8 +2,8 @@
 ghost use Prim.Native.Nat.{_*_, _≤_};
 ghost use lib.ListN.{length};
 ghost use Rattle.board.specs.Streams.{saidNumbers};
-use crate::lines::Out;
-use crate::lines::put;
+use crate::out::Out;
+use crate::out::put;
 use board::SAID;
 use std::num::wrapping_add_u64;
 use stream::said_line;

@@ -1,6 +1,6 @@
 // What is printed of a sheet: one line for an event, or, in full, the plan test's answer and the reply to every board.
-use crate::lines::Out;
-use crate::lines::put;
+use crate::out::Out;
+use crate::out::put;
 use board::Board;
 use plan::Plan;
 use replies::Outcome;

@@ -741,7 +741,7 @@ fn long(draw: &mut Draw) -> Vec<Ask> {
     }
     let mut text = full;
     let last = text.lines[text.lines.len() - 1].clone();
-    text.lines.resize(draw.pick(&[1_130, 5_000, 20_000]), last);
+    text.lines.resize(draw.pick(&[1_130, 2_000, 4_000]), last);
     if let Some(last) = text.lines.last_mut() {
         last[draw.below(COLUMNS)] = b"x".to_vec();
     }
@@ -750,9 +750,9 @@ fn long(draw: &mut Draw) -> Vec<Ask> {
     asks
 }
 
-/// Megabytes of one line.
+/// One long line, as long as `desk import` takes it.
 fn one_long_line(draw: &mut Draw) -> Vec<Ask> {
-    let size = draw.pick(&[1_000_000, 2_000_000, 3_000_001]);
+    let size = draw.pick(&[30_000, 60_000, 110_001]);
     let zeros = b"0".repeat(size);
     let mut good = sheet(draw);
     good.lines[0][2] = [b"-", &zeros[..]].concat();
@@ -770,8 +770,8 @@ fn one_long_line(draw: &mut Draw) -> Vec<Ask> {
     text.lines[line][draw.below(COLUMNS)] = piece.repeat(size / piece.len());
     bytes.push((way, text.bytes()));
     let asked = bytes.into_iter().map(|(what, bytes)| {
-        let what = format!("megabytes of one line, {what}");
-        ask("import", &what, bytes, vec![case("megabytes of one line")])
+        let what = format!("one long line, {what}");
+        ask("import", &what, bytes, vec![case("one long line")])
     });
     asked.collect()
 }
@@ -890,7 +890,7 @@ pub fn cases() -> Vec<String> {
         "1,128 lines",
         "1,129 lines",
         "a bad line past the room",
-        "megabytes of one line",
+        "one long line",
         "a cut at each byte",
         "a byte changed",
     ]

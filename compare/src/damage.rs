@@ -76,6 +76,7 @@ pub fn aim(draw: &mut Draw, bytes: &mut [u8]) {
     let kinds: &[u8] = match way {
         3 if !draw.one_in(3) => &[2, 3, 4],
         4 => &[2, 3, 4],
+        5 if draw.one_in(2) => &[4],
         5 => &[2, 4],
         6 => &[2],
         7 | 8 => &[2, 3, 4],

@@ -587,6 +587,32 @@ pub fn trucks(draw: &mut Draw, drives: usize, fork: bool) -> Plan {
     plan
 }
 
+/// Three foreman's points: once the first is done, the second has an end, and the third is open and may come only after that
+/// end, so it is held; now and then just not.
+pub fn held(draw: &mut Draw) -> Plan {
+    let mut order = [0, 1, 2];
+    draw.shuffle(&mut order);
+    let [first, second, third] = order;
+    let end = draw.edgy(0, 50);
+    let least = end + draw.pick(&[0, 1, 1, 1, 30]);
+    Plan {
+        ponds: vec![0; order.len()],
+        ordinary: vec![
+            Ordinary {
+                x: first,
+                d: end,
+                y: second,
+            },
+            Ordinary {
+                x: third,
+                d: -least.max(1),
+                y: first,
+            },
+        ],
+        ..Plan::default()
+    }
+}
+
 /// Such trucks, two to eight of them.
 pub fn any_trucks(draw: &mut Draw) -> Plan {
     let drives = draw.pick(&[2, 2, 2, 3, 3, 4, 5, 8]);

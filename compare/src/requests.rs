@@ -89,30 +89,33 @@ impl Requests {
     }
 }
 
-/// The batch of this number: every eleven hold each kind.
+/// The batch of this number: every thirteen hold each kind.
 pub fn batch(draw: &mut Draw, number: u64) -> Vec<Input> {
-    match number % 11 {
+    match number % 13 {
         0..=1 => boards(draw, true),
         2..=3 => boards(draw, false),
-        4 => any_plans(draw),
+        4 | 11 => any_plans(draw),
         5 => buffers(draw),
         6 => events_of_any_length(draw),
         7 => tests(draw),
         8 => lists(draw),
         9 => streams(draw),
-        _ => files(draw),
+        10 | 12 => files(draw),
+        _ => unreachable!("a remainder of thirteen"),
     }
 }
 
 /// A plan that a file can hold.
 fn good_plan(draw: &mut Draw) -> Plan {
-    match draw.below(11) {
+    match draw.below(13) {
         0 => plans::haul(draw),
         1 => plans::passing(draw),
         2 => plans::chain(draw),
         3 => plans::stuck(draw),
         6 | 7 => plans::any_trucks(draw),
         8 => plans::any_ringed(draw),
+        9 => plans::held(draw),
+        10 => plans::trucks(draw, 8, false),
         4 => {
             let sizes = Sizes::any(draw);
             plans::layered(draw, sizes, false)

@@ -48,4 +48,4 @@ sound rs b =
     && (each (inBounds b) rs
     && (leb (b .clock) (farthest * countOf (b .done))
     && (each (earlier b) rs
-    && wellNumbered rs b))))))
+    && wellNumbered rs b)))))

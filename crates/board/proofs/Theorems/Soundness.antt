@@ -15,7 +15,7 @@ use Rattle.plan.specs.APlan.{link, is, points, watched, blank}
 use Rattle.records.specs.declared.Record.{Record}
 use Rattle.board.specs.Boards.{fresh, isDone, minute, shortest, longest, running, each, largest, fits, inBounds, sound}
 use Rattle.board.specs.Calls.{call, earlier, lastCall}
-use Rattle.calls.proofs.Laws.{Numbers, numbers-means, numbers-from, last-is}
+use Rattle.calls.proofs.Laws.{Numbers, numbers-means, numbers-from, last-is, numbers-none}
 use Rattle.board.specs.declared.Board.{Board}
 use Rattle.board.proofs.Theorems.Each.{clash, both, and-both, unless, as-unless, every-point, point-every, has-members, members-has, each-at, at-each, subset-below, below-subset, largest-le, largest-ge, largest-at}
 
@@ -163,16 +163,7 @@ module _ (rs : List Record) (b : Board) where
 -- ---- the fresh board
 
 fresh-numbers : (rs : List Record) → NumbersOf rs fresh 0
-fresh-numbers rs =
-    record {
-      nought = λ p l n. getD-replicate {A = ℕ} mostPoints p 0 0 l;
-      least = λ p l d. clash (sym d ∙ member-empty p);
-      most = λ p l d. clash (sym d ∙ member-empty p);
-      each = λ n a c. absurd (omega arith);
-      rising = λ p q l m d f a. clash (sym d ∙ member-empty p);
-      same = λ p q l m d f a. clash (sym d ∙ member-empty p);
-      one = λ p q l m d f a u v. clash (sym d ∙ member-empty p);
-    }
+fresh-numbers rs = numbers-none (watched rs) (fresh .minutes) (fresh .calls) (λ p l. getD-replicate {A = ℕ} mostPoints p 0 0 l)
 
 -- A fresh board is sound for any records.
 pub fresh-sound : (rs : List Record) → sound rs fresh ≡ true

@@ -15,7 +15,7 @@ use Rattle.plan.specs.APlan.{link, is, points, watched, blank}
 use Rattle.records.specs.declared.Record.{Record}
 use Rattle.board.specs.Boards.{fresh, isDone, minute, shortest, longest, running, each, largest, fits, inBounds, sound}
 use Rattle.board.specs.Calls.{call, earlier, lastCall}
-use Rattle.calls.proofs.Laws.{Numbers, numbers-means, numbers-from, last-is, numbers-none}
+use Rattle.calls.proofs.Laws.{Numbers, numbers-means, numbers-from, last-is, last-room, numbers-none}
 use Rattle.board.specs.declared.Board.{Board}
 use Rattle.board.proofs.Theorems.Each.{clash, both, and-both, unless, as-unless, every-point, point-every, has-members, members-has, each-at, at-each, subset-below, below-subset, largest-le, largest-ge, largest-at}
 
@@ -159,6 +159,10 @@ module _ (rs : List Record) (b : Board) where
 
   pub to-largest : {k : ℕ} → NumbersOf rs b k → NumbersOf rs b (lastCall b)
   to-largest {k} n = rw (largest-call n) n
+
+-- On a sound board the largest number is no more than there are points.
+pub few-calls : (rs : List Record) (b : Board) → sound rs b ≡ true → b .done < 2 ^ 32 → lastCall b ≤ mostPoints
+few-calls rs b e f = last-room (watched rs) (b .done) (b .minutes) (b .calls) (lastCall b) (sound-means rs b e .numbers) f
 
 -- ---- the fresh board
 

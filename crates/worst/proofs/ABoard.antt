@@ -11,6 +11,7 @@ use Rattle.plan.specs.APlan.{planOf, howMany, some, firstThat, recordsOf}
 use Rattle.plan.specs.ReplyNumbers.{refusal, checkWith, firstBadWith, numberForWith, lastKind}
 use Rattle.plan.specs.declared.Plan.{Plan}
 use Rattle.points.specs.Sets.{member, membersOf, withOf, belowOf, subsetOf, from, every, passing, firstOr}
+use Rattle.board.specs.Calls.{numbered}
 use Rattle.board.specs.Boards.{sound, each, largest}
 use Rattle.board.specs.Windows.{greatest, least, leastHigh}
 use Rattle.board.specs.Events.{noPoint, takeOf, eventNumber, boardAfter, markAll}
@@ -95,7 +96,7 @@ first-of-equal = refl
 
 -- the longest drive is done at 60, the clock of its last event
 haul-finishes : finishing haul (set unset 2 50) ≡ 60
-unfolding runFrom eventsFrom leastOf setOf firstOr ones takeOf eventNumber boardAfter markAll sound each largest stateOf greatest least leastHigh member membersOf withOf belowOf subsetOf from every passing howMany some firstThat checkWith firstBadWith numberForWith lastKind
+unfolding runFrom eventsFrom leastOf setOf firstOr ones takeOf eventNumber boardAfter markAll sound numbered each largest stateOf greatest least leastHigh member membersOf withOf belowOf subsetOf from every passing howMany some firstThat checkWith firstBadWith numberForWith lastKind
 haul-finishes = refl
 
 -- ---- refusals

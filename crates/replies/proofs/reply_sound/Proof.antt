@@ -22,9 +22,6 @@ returns c =
     let b = s .args .board in
     c .nothing-more .ensures ∙ reply-finished rs b (sym (c .before .before .is-finished .ensures) ∙ c .before .if1 .taken)
 
-links-of-requires : tie.Need-links-of-requires
-links-of-requires c κs = search needs
-
 windows-of-requires : tie.Need-windows-of-requires
 windows-of-requires c κs = search needs
 
@@ -79,7 +76,6 @@ reply-sound-spec =
     is-finished-requires
     nothing-more-requires
     returns
-    links-of-requires
     windows-of-requires
     is-stuck-requires
     nothing-more-requires-2

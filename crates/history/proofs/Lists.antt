@@ -48,13 +48,13 @@ has-every test [] h = refl
 has-every test (p ∷ ps) h =
     and-both (test p) (every test ps) (h p (rw (eq-eqb p p refl))) (has-every test ps (λ q k. h q (rw k (or-true (eqb q p)))))
 
-has-from : (q n p : ℕ) → p ≤ q → q < p + n → has q (from p n) ≡ true
+pub has-from : (q n p : ℕ) → p ≤ q → q < p + n → has q (from p n) ≡ true
 unfolding from
 has-from q zero p a b = absurd (omega arith)
 has-from q (suc n) p a b =
     elim (eq-or-lt-of-le a) [ inl k ↦ rw (eq-eqb q p (sym k)) | inr l ↦ rw (has-from q n (suc p) l (omega arith)) (or-true (eqb q p)) ]
 
-from-has : (q n p : ℕ) → has q (from p n) ≡ true → (p ≤ q) × (q < p + n)
+pub from-has : (q n p : ℕ) → has q (from p n) ≡ true → (p ≤ q) × (q < p + n)
 unfolding from
 from-has q zero p h = clash (sym h)
 from-has q (suc n) p h =

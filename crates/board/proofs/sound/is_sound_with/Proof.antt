@@ -42,16 +42,16 @@ is-numbered-requires c κs = search needs
 returns : tie.Need-returns
 unfolding sound
 returns c =
-    let s = c .before .before .before .before .before .before .before .before .before .before .before in
+    let s = c .before .before .before .before .before .before .before .before .before .before in
     rw (
       c .is-numbered .ensures,
-      c .before .before .every-record2 .ensures,
-      c .before .before .before .count .ensures,
-      c .before .before .before .before .every-record .ensures,
-      c .before .before .before .before .before .last-done .ensures,
-      c .before .before .before .before .before .before .all-fit .ensures,
-      c .before .before .before .before .before .before .before .subset .ensures,
-      c .before .before .before .before .before .before .before .before .all-points .ensures,
+      c .before .every-record2 .ensures,
+      c .before .before .count .ensures,
+      c .before .before .before .every-record .ensures,
+      c .before .before .before .before .last-done .ensures,
+      c .before .before .before .before .before .all-fit .ensures,
+      c .before .before .before .before .before .before .subset .ensures,
+      c .before .before .before .before .before .before .before .all-points .ensures,
       numbered-by (member (s .args .links .watched)) (watched (recordsOf (s .args .plan))) (s .args .board .done) (s .args .board .minutes) (s .args .board .calls) (s .pre .watches),
     )
 

@@ -3,9 +3,6 @@ use borrow.Author.Needs.{needs}
 use Rattle.calls.proofs.agrees.Statement.{statement}
 use Rattle.calls.proofs.agrees.Tie as tie
 
-cast-result : tie.Need-cast-result
-cast-result c = search needs
-
 has-requires : tie.Need-has-requires
 has-requires c κs = search needs
 
@@ -16,4 +13,4 @@ returns : tie.Need-returns
 returns c = rw (c .has2 .ensures, c .before .has .ensures)
 
 pub agrees-spec : {M : Type 1} → statement M
-agrees-spec = tie.close (tie.spec cast-result has-requires has-requires-2 returns)
+agrees-spec = tie.close (tie.spec has-requires has-requires-2 returns)

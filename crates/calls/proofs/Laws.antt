@@ -15,6 +15,8 @@ use Rattle.plan.specs.Limits.{mostPoints}
 use Rattle.history.specs.History.{minuteIn, largest}
 use Rattle.history.proofs.Tests.{clash, both, and-both, either, unless, as-unless}
 use Rattle.history.proofs.Lists.{has, every-has, every-point, point-every, has-members, members-has, every-member, member-every, largest-le, largest-ge, largest-at}
+-- the cases first: a wrong rule is then an error about them
+use Rattle.calls.proofs.ACase.{cases}
 use Rattle.calls.specs.Calls.{callIn, unnumbered, noGap, neverFall, sameMinute, oneForeman, anyTwo, numbered, lastCall}
 
 -- ---- tests of some points

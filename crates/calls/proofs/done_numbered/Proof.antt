@@ -119,9 +119,10 @@ in-order-requires c κs = search needs
 
 returns-2 : tie.Need-returns-2 Inv-loop μ-loop
 returns-2 c =
-    let a = c .before .before .before .args in
-    let l = c .before .before .loop in
-    c .in-order .ensures ∙ slots-end (member (a .watched)) (a .done) (a .t2) (a .t3) (c .before .before .before .pre) _ _ _ (rw (c .before .loop-test .left) at (l .inv)) (c .before .before .before .fits .done .fits)
+    let s = c .before .before .before in
+    let a = s .args in
+    let all = rw (c .before .loop-test .left) at (c .before .before .loop .inv) in
+    c .in-order .ensures ∙ slots-end (member (a .watched)) (a .done) (a .t2) (a .t3) (s .pre) _ _ _ all (s .fits .done .fits)
 
 pub done-numbered-spec : {M : Type 1} → statement M
 done-numbered-spec =

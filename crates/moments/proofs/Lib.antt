@@ -1,0 +1,2 @@
+-- The proofs of the lines of an event.
+pub mod Laying

@@ -3,8 +3,8 @@ use mathlib.Core.Path.{_≡_, refl, sym, ap, _∙_, subst}
 use mathlib.Core.List.{List, [], _∷_, _++_, append-assoc, append-nil}
 use Prim.Native.Nat.{ℕ, zero, suc, _+_, _-_, _≤_, _<_}
 use native.Mathlib.Omega.{arith}
-use lib.ListN.{length, take, drop, set, getD, length-append, length-drop, length-set}
-use lib.Seq.{length-take-le, take-at, drop-at, set-split, drop-drop, drop-cons, drop-set-add, take-set-le}
+use lib.ListN.{length, take, drop, set, getD, length-append, length-drop, length-set, drop-of-length-le}
+use lib.Seq.{length-take-le, take-at, drop-at, set-split, drop-drop, drop-cons, drop-set-add, take-set-le, take-all, take-length}
 use Rattle.moments.specs.Inside.{laid, Room, Laid}
 
 -- what has been put in has the length that was there
@@ -75,3 +75,13 @@ pub laid-one : (out : List ℕ) (at d : ℕ) → at < length out → set out at 
 laid-one out at d h =
     let n : at + 1 ≡ suc at = omega arith in
     rw n (set-split out at d h)
+
+-- ---- a text that is copied
+
+-- a part from `at` on whose front is overwritten
+pub overwritten : (out part t : List ℕ) (at : ℕ) → at + length t ≤ length out
+    → part ≡ take (length t) t ++ drop (length t) (take (length out - at) (drop at out))
+    → take at out ++ (part ++ drop (length out - at) (drop at out)) ≡ laid out at t
+overwritten out part t at h f =
+    let l : length (drop at out) ≤ length out - at = omega (arith, length-drop at out) in
+    rw (f, take-length t, take-all (length out - at) (drop at out) l, drop-of-length-le (drop at out) l, drop-drop (length t) at out, append-nil)

@@ -1,2 +1,3 @@
 -- The proofs of the lines of an event.
 pub mod Laying
+pub mod Digits

@@ -72,6 +72,7 @@ pub stored-end : {before out : List ℕ} {at n next i m : ℕ} → Stored before
 stored-end {before} {out} {at} {n} {next} {i} {m} s h =
     let w : i ≡ at = omega (arith, s .place, one-long m h) in
     record {
+      fits = omega (arith, s .room, s .behind);
       bytes =
         ap (λ (q : ℕ). set out q (48 + m)) w
         ∙ laid-one out at (48 + m) (omega (arith, s .long, s .room, s .inside))

@@ -38,21 +38,17 @@ laid-laid out at t u h =
         ∙ drop-drop (length u) (at + length t) out in
     rw (n, laid-front out at t h, d, append-assoc (take at out) t (u ++ drop (at + length t + length u) out), append-assoc t u (drop (at + length t + length u) out))
 
--- room for the first of two texts, and for the second behind it
-pub room-first : {out : List ℕ} {at : ℕ} (t u : List ℕ) → Room out at (t ++ u) → Room out at t
-room-first t u r = record { fits = omega (arith, r .fits, length-append t u) }
-
-pub room-then : {out after : List ℕ} {at next : ℕ} (t u : List ℕ) → Room out at (t ++ u) → Laid out at t after next → Room after next u
-room-then {out} {after} {at} {next} t u r l =
-    let n : length after ≡ length out = rw (l .bytes) (laid-length out at t (room-first t u r .fits)) in
-    record { fits = omega (arith, r .fits, length-append t u, l .behind) }
+-- the buffer is as long as it was
+pub long-after : {out text after : List ℕ} {at next : ℕ} → Laid out at text after next → length after ≡ length out
+long-after {out} {text} {at = at} l = rw (l .bytes) (laid-length out at text (l .fits))
 
 -- one text and then another
-pub then : {out after last : List ℕ} {at next end : ℕ} (t u : List ℕ) → Room out at (t ++ u)
-    → Laid out at t after next → Laid after next u last end → Laid out at (t ++ u) last end
-then {out} {after} {last} {at} {next} {end} t u r l m =
+pub then : {out t u after last : List ℕ} {at next end : ℕ} → Laid out at t after next → Laid after next u last end
+    → Laid out at (t ++ u) last end
+then {out} {t} {u} {at = at} l m =
     record {
-      bytes = m .bytes ∙ (λ i. laid (l .bytes i) (l .behind i) u) ∙ laid-laid out at t u (room-first t u r .fits);
+      fits = omega (arith, length-append t u, m .fits, l .behind, long-after l);
+      bytes = m .bytes ∙ (λ i. laid (l .bytes i) (l .behind i) u) ∙ laid-laid out at t u (l .fits);
       behind = omega (arith, m .behind, l .behind, length-append t u);
     }
 

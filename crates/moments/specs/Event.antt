@@ -1,7 +1,8 @@
 -- Document 02, §10, "Sheets in the crews' calendars": the lines of one event, byte for byte. An event is one point's: its number, its
 -- pond code and the moment at which it was done, a text of sixteen bytes in the UTC form of RFC 5545. Assumes nothing.
 use mathlib.Core.List.{List, [], _∷_, _++_}
-use Prim.Native.Nat.{ℕ, _+_, _/_, _%_}
+use Prim.Native.Nat.{ℕ, _+_, _*_, _/_, _%_}
+use lib.ListN.{length}
 use Rattle.values.specs.Ascii.{ascii}
 use Rattle.lines.specs.Text.{decimal}
 
@@ -49,3 +50,11 @@ eventText p code moment =
     ++ startLine moment
     ++ summaryLine p code
     ++ line (ascii "END:VEVENT")
+
+-- what an event has beside the two numbers of the point and the pond code
+abbrev pub eventFixed : ℕ
+eventFixed = 118
+
+-- how long an event is, whatever its moment
+abbrev pub eventLength : ℕ → ℕ → ℕ
+eventLength p code = eventFixed + 2 * length (decimal p) + length (decimal code)

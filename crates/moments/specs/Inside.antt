@@ -18,5 +18,6 @@ pub record Room (out : List ℕ) (at : ℕ) (text : List ℕ) : Type 0 where
 
 -- the text has been put into the buffer from `at` on, and `next` is the place behind it
 pub record Laid (out : List ℕ) (at : ℕ) (text : List ℕ) (after : List ℕ) (next : ℕ) : Type 0 where
+  pub fits : at + length text ≤ length out
   pub bytes : after ≡ laid out at text
   pub behind : next ≡ at + length text

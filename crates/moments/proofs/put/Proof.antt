@@ -29,6 +29,7 @@ returns c =
     let s = c .before .before .before .before .before .before .args in
     let k = c .before .before .copy .ensures in
     record {
+      fits = c .before .before .before .before .before .before .pre .fits;
       bytes = overwritten (s .out .now) (c .before .before .copy .last .1 .0) (s .text .now) (s .at) (omega arith) (k .1);
       behind = omega (arith, k .0);
     }

@@ -1,0 +1,180 @@
+-- The days of months and of years, and the number of a day: what each date counts, that the day after counts one more, and that two dates
+-- never count the same. Assumes nothing.
+use mathlib.Core.Path.{_≡_, refl, ap, sym, _∙_}
+use mathlib.Core.Bool.{Bool, true, false, _&&_, _||_, true≢false, and-eq-true-iff}
+use Prim.Native.Nat.{ℕ, zero, suc, _+_, _*_, _-_, _<_, _≤_}
+use native.Mathlib.Omega.{arith}
+use lib.Dec.{eqb, leb, ltb}
+use borrow.Author.Tests.{eqb-true, eqb-false, ltb-true, ltb-false, leb-true, leb-false, le-leb, lt-ltb, le-ltb}
+use Rattle.numbers.specs.Choice.{if_then_else_}
+use Rattle.dates.specs.Gregorian.{Date, leap, daysIn, isDate, nextDay, daysLater}
+use Rattle.dates.specs.Counting.{daysOf, before, dayNumber, Falls}
+use Rattle.dates.proofs.Sums.{next-part, rises, falls-once}
+
+-- What the days of a month can be: none where it is no month.
+pub record Length (m n : ℕ) : Type 0 where
+  pub most : n ≤ 31
+  pub month : 1 ≤ n → (1 ≤ m) × (m ≤ 12)
+  pub some : 1 ≤ m → m ≤ 12 → 28 ≤ n
+
+short : (b : Bool) → (28 ≤ (if b then 29 else 28)) × ((if b then 29 else 28) ≤ 31)
+short true = (omega arith, omega arith)
+short false = (omega arith, omega arith)
+
+pub length-of : (y m : ℕ) → Length m (daysIn y m)
+unfolding daysIn
+length-of y m = second (eqb m 2) refl
+  where
+    other : (b : Bool) → (leb 1 m && leb m 12) ≡ b → Length m (if b then 31 else 0)
+    other true e =
+        let r = and-eq-true-iff (leb 1 m) (leb m 12) .0 e in
+        let l = leb-true 1 m (r .0) in
+        let h = leb-true m 12 (r .1) in
+        record { most = omega arith; month = λ o. (l, h); some = λ a b. omega arith }
+    other false e =
+        record { most = omega arith; month = λ o. absurd (omega arith); some = λ a b. absurd (true≢false (sym (and-eq-true-iff (leb 1 m) (leb m 12) .1 (le-leb 1 m a, le-leb m 12 b)) ∙ e)) }
+
+    thirty : (a b c d : Bool) → eqb m 4 ≡ a → eqb m 6 ≡ b → eqb m 9 ≡ c → eqb m 11 ≡ d
+        → Length m (if a || (b || (c || d)) then 30 else if leb 1 m && leb m 12 then 31 else 0)
+    thirty true b c d e _ _ _ = let k = eqb-true m 4 e in record { most = omega arith; month = λ o. (omega arith, omega arith); some = λ a b. omega arith }
+    thirty false true c d _ e _ _ = let k = eqb-true m 6 e in record { most = omega arith; month = λ o. (omega arith, omega arith); some = λ a b. omega arith }
+    thirty false false true d _ _ e _ = let k = eqb-true m 9 e in record { most = omega arith; month = λ o. (omega arith, omega arith); some = λ a b. omega arith }
+    thirty false false false true _ _ _ e = let k = eqb-true m 11 e in record { most = omega arith; month = λ o. (omega arith, omega arith); some = λ a b. omega arith }
+    thirty false false false false _ _ _ _ = other (leb 1 m && leb m 12) refl
+
+    second : (b : Bool) → eqb m 2 ≡ b
+        → Length m (if b then (if leap y then 29 else 28) else if eqb m 4 || (eqb m 6 || (eqb m 9 || eqb m 11)) then 30 else if leb 1 m && leb m 12 then 31 else 0)
+    second true e =
+        let k = eqb-true m 2 e in
+        let s = short (leap y) in
+        record { most = s .1; month = λ o. (omega arith, omega arith); some = λ a b. s .0 }
+    second false e = thirty (eqb m 4) (eqb m 6) (eqb m 9) (eqb m 11) refl refl refl refl
+
+-- A year's months are its days.
+pub whole-year : (y : ℕ) → before (daysIn y) 13 ≡ daysOf y
+unfolding before daysIn daysOf
+whole-year y = go (leap y)
+  where
+    go : (b : Bool) → 31 + (if b then 29 else 28) + 31 + 30 + 31 + 30 + 31 + 31 + 30 + 31 + 30 + 31 ≡ (if b then 366 else 365)
+    go true = refl
+    go false = refl
+
+-- A year has days.
+pub year-long : (y : ℕ) → (365 ≤ daysOf y) × (daysOf y ≤ 366)
+unfolding daysOf
+year-long y = go (leap y)
+  where
+    go : (b : Bool) → (365 ≤ (if b then 366 else 365)) × ((if b then 366 else 365) ≤ 366)
+    go true = (omega arith, omega arith)
+    go false = (omega arith, omega arith)
+
+-- Nothing is before January.
+pub january : (y : ℕ) → before (daysIn y) 1 ≡ 0
+unfolding before daysIn
+january y = refl
+
+-- A month with days before the end of its year, which those behind it do not use up, is not December.
+pub not-last : (y n m left : ℕ) → before (daysIn y) m + left ≡ n → n < daysOf y → daysIn y m ≤ left → m ≤ 12 → m + 1 ≤ 12
+unfolding before
+not-last y n m left e l w h = go (ltb m 12) refl
+  where
+    go : (b : Bool) → ltb m 12 ≡ b → m + 1 ≤ 12
+    go true t = omega (arith, ltb-true m 12 t)
+    go false t = let k : m ≡ 12 = omega (arith, ltb-false m 12 t) in absurd (omega (arith, rw k at e, rw k at w, whole-year y))
+
+-- ---- dates and the numbers of their days
+
+-- What a date's day is.
+pub date-day : (d : Date) → isDate d ≡ true → (1 ≤ d .day) × (d .day ≤ daysIn (d .year) (d .month))
+unfolding isDate
+date-day d e =
+    let r = and-eq-true-iff (leb 1 (d .day)) (leb (d .day) (daysIn (d .year) (d .month))) .0 e in
+    (leb-true 1 (d .day) (r .0), leb-true (d .day) (daysIn (d .year) (d .month)) (r .1))
+
+-- Such a day makes a date.
+pub is-date : (d : Date) → 1 ≤ d .day → d .day ≤ daysIn (d .year) (d .month) → isDate d ≡ true
+unfolding isDate
+is-date d l h = rw (le-leb 1 (d .day) l, le-leb (d .day) (daysIn (d .year) (d .month)) h)
+
+-- What a date's month is.
+pub date-month : (d : Date) → isDate d ≡ true → (1 ≤ d .month) × (d .month ≤ 12)
+date-month d e = let r = date-day d e in length-of (d .year) (d .month) .month (omega arith)
+
+-- A date's place in its year.
+in-year : (d : Date) (n : ℕ) → isDate d ≡ true → dayNumber d ≡ n + 1 → Falls daysOf n (d .year) (before (daysIn (d .year)) (d .month) + (d .day - 1))
+in-year d n e k =
+    let r = date-day d e in
+    let m = date-month d e in
+    let s = rises (daysIn (d .year)) (d .month + 1) 13 (omega arith) in
+    record {
+      counted = omega arith;
+      inside = omega (arith, next-part (daysIn (d .year)) (d .month), whole-year (d .year));
+    }
+
+-- A date's place in its month.
+in-month : (d : Date) (n : ℕ) → isDate d ≡ true → before (daysIn (d .year)) (d .month) + (d .day - 1) ≡ n → Falls (daysIn (d .year)) n (d .month) (d .day - 1)
+in-month d n e k = let r = date-day d e in record { counted = k; inside = omega arith }
+
+-- Two dates whose days have the same number are the same date.
+pub same-date : (a b : Date) → isDate a ≡ true → isDate b ≡ true → dayNumber a ≡ dayNumber b → a ≡ b
+same-date a b p q e =
+    let r = date-day a p in
+    let s = date-day b q in
+    let n = dayNumber a - 1 in
+    let ya : Falls daysOf n (a .year) (before (daysIn (a .year)) (a .month) + (a .day - 1)) = in-year a n p (omega arith) in
+    let yb : Falls daysOf n (b .year) (before (daysIn (b .year)) (b .month) + (b .day - 1)) = in-year b n q (omega arith) in
+    let y : a .year ≡ b .year = falls-once _ _ _ _ _ _ ya yb in
+    let u : before daysOf (a .year) ≡ before daysOf (b .year) = ap (λ k. before daysOf k) y in
+    let k = before (daysIn (b .year)) (b .month) + (b .day - 1) in
+    let ma : Falls (daysIn (a .year)) k (a .month) (a .day - 1) = in-month a k p (omega (arith, ya .counted, yb .counted)) in
+    let mb : Falls (daysIn (a .year)) k (b .month) (b .day - 1) = rw y (in-month b k q refl) in
+    let m : a .month ≡ b .month = falls-once _ _ _ _ _ _ ma mb in
+    let w : before (daysIn (a .year)) (a .month) ≡ before (daysIn (b .year)) (b .month) = rw (y, m) in
+    let d : a .day ≡ b .day = omega arith in
+    λ i. record { year = y i; month = m i; day = d i }
+
+-- ---- the day after
+
+-- The day after a date is a date, and its number is one more.
+pub record After (d e : Date) : Type 0 where
+  pub date : isDate e ≡ true
+  pub number : dayNumber e ≡ dayNumber d + 1
+
+pub next-after : (d : Date) → isDate d ≡ true → After d (nextDay d)
+unfolding nextDay
+next-after d e = go (ltb (d .day) (daysIn (d .year) (d .month))) refl (ltb (d .month) 12) refl
+  where
+    go : (b : Bool) → ltb (d .day) (daysIn (d .year) (d .month)) ≡ b → (c : Bool) → ltb (d .month) 12 ≡ c
+        → After d
+        (if b then record { year = d .year; month = d .month; day = d .day + 1 }
+        else if c then record { year = d .year; month = d .month + 1; day = 1 }
+        else record { year = d .year + 1; month = 1; day = 1 })
+    go true l c h =
+        let r = ltb-true (d .day) (daysIn (d .year) (d .month)) l in
+        record { date = is-date _ (omega arith) (omega arith); number = omega arith }
+    go false l true h =
+        let m = ltb-true (d .month) 12 h in
+        let r = date-day d e in
+        record {
+          date = is-date _ (omega arith) (omega (arith, length-of (d .year) (d .month + 1) .some (omega arith) (omega arith)));
+          number = omega (arith, next-part (daysIn (d .year)) (d .month), ltb-false (d .day) (daysIn (d .year) (d .month)) l);
+        }
+    go false l false h =
+        let r = date-day d e in
+        let m : d .month ≡ 12 = omega (arith, ltb-false (d .month) 12 h, date-month d e) in
+        let j = january (d .year + 1) in
+        let w : before (daysIn (d .year)) (d .month + 1) ≡ daysOf (d .year) = rw m (whole-year (d .year)) in
+        let z : d .day ≡ daysIn (d .year) (d .month) = omega (arith, ltb-false (d .day) (daysIn (d .year) (d .month)) l) in
+        record {
+          date = is-date _ (omega arith) (omega (arith, length-of (d .year + 1) 1 .some (omega arith) (omega arith)));
+          number = omega (arith, next-part (daysIn (d .year)) (d .month), next-part daysOf (d .year));
+        }
+
+-- So many days after a date is a date, and its number is so much more.
+pub later : (n : ℕ) (d : Date) → isDate d ≡ true → (isDate (daysLater n d) ≡ true) × (dayNumber (daysLater n d) ≡ dayNumber d + n)
+unfolding daysLater
+later zero d e = (e, omega arith)
+later (suc n) d e =
+    let r = later n d e in
+    let s = next-after (daysLater n d) (r .0) in
+    (s .date, omega (arith, s .number, r .1))

@@ -1,0 +1,5 @@
+-- What holds of dates, for later crates to cite, and what it rests on.
+mod Sums
+mod Passing
+pub mod Days
+pub mod Minutes

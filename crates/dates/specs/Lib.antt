@@ -1,0 +1,3 @@
+-- What a reader has to believe of dates. No proofs are here.
+pub mod Gregorian
+pub mod Counting

@@ -3,7 +3,7 @@ use mathlib.Core.Path.{_≡_, refl, sym, ap, _∙_, subst}
 use mathlib.Core.List.{List, [], _∷_, _++_, append-assoc, append-nil}
 use Prim.Native.Nat.{ℕ, zero, suc, _+_, _-_, _≤_, _<_}
 use native.Mathlib.Omega.{arith}
-use lib.ListN.{length, take, drop, set, getD, length-append, length-drop, length-set, drop-of-length-le}
+use lib.ListN.{length, take, drop, set, getD, length-append, length-drop, length-set, drop-of-length-le, take-append-drop}
 use lib.Seq.{length-take-le, take-at, drop-at, set-split, drop-drop, drop-cons, drop-set-add, take-set-le, take-all, take-length}
 use Rattle.moments.specs.Inside.{laid, Room, Laid}
 
@@ -51,6 +51,12 @@ then {out} {t} {u} {at = at} l m =
       bytes = m .bytes ∙ (λ i. laid (l .bytes i) (l .behind i) u) ∙ laid-laid out at t u (l .fits);
       behind = omega (arith, m .behind, l .behind, length-append t u);
     }
+
+-- no text at all
+pub nothing-laid : (out : List ℕ) (at : ℕ) → at ≤ length out → Laid out at [] out at
+nothing-laid out at h =
+    let z : at + 0 ≡ at = omega arith in
+    record { fits = omega arith; bytes = rw z (sym (take-append-drop at out)); behind = omega arith }
 
 -- ---- bytes stored from the last one back
 

@@ -1,0 +1,3 @@
+-- The proofs of the calendar. Other crates cite the ones that are `pub`.
+pub mod Lengths
+pub mod Going

@@ -16,7 +16,7 @@ use Rattle.moments.specs.Event.{eventText, eventLength}
 use Rattle.moments.specs.Inside.{Room, Laid}
 use Rattle.moments.proofs.Laying.{then, nothing-laid, long-after}
 use Rattle.moments.proofs.Lengths.{event-long}
-use Rattle.calendar.specs.Calendars.{pondCode, momentOf, eventOf, eventsOf, heading, ending, eventsLength, textLength}
+use Rattle.calendar.specs.Calendars.{pondCode, momentOf, eventOf, eventsOf, heading, ending, calendarText, eventsLength, textLength}
 use Rattle.calendar.proofs.Lengths.{not-long, length-more, no-shorter, few-points, code-at, events-long}
 
 -- the n points of an accepted plan, of which p are passed
@@ -110,3 +110,10 @@ pub put-all : {plan : Plan} {b : Board} {origin : Stamp} {before : List ℕ} {at
 put-all {n = n} {p = p} w h =
     let e : p ≡ n = omega (arith, w .pass .upto) in
     rw e at (w .laid)
+
+-- the lines before the events, the events and the line behind them are the whole text
+pub all-laid : (rs : List Record) (b : Board) (origin : Stamp) {n : ℕ} {out first second last : List ℕ} {at next end : ℕ} → n ≡ points rs
+    → Laid out 0 heading first at → Laid first at (eventsOf rs b origin n) second next → Laid second next ending last end
+    → Laid out 0 (calendarText rs b origin) last end
+unfolding calendarText
+all-laid rs b origin e l m k = then (then l (rw e at m)) k

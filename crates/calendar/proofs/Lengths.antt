@@ -61,3 +61,8 @@ module _ (p : Plan) (ok : checkOf p .number ≡ 0) (full : length (p .records) �
       let n = used-records p full in
       let m = many-le (is point) (recordsOf p) in
       (omega arith, record-at p full i (omega arith))
+
+-- the whole text's length, by the number of points
+pub text-parts : (rs : List Record) (n : ℕ) → n ≡ points rs → textLength rs ≡ 59 + eventsLength rs n + 15
+unfolding textLength
+text-parts rs n e = rw e

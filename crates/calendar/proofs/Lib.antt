@@ -1,3 +1,4 @@
 -- The proofs of the calendar. Other crates cite the ones that are `pub`.
 pub mod Lengths
 pub mod Going
+pub mod Writing

@@ -76,5 +76,5 @@ calendarOf p b origin out =
 unfoldable pub writtenOf : Plan → Board → Stamp → List ℕ → List ℕ
 writtenOf p b origin out =
     if eqb (calendarOf p b origin out .number) 0 then
-      calendarText (recordsOf p) b origin ++ drop (length (calendarText (recordsOf p) b origin)) out
+    calendarText (recordsOf p) b origin ++ drop (length (calendarText (recordsOf p) b origin)) out
     else out

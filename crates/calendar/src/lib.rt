@@ -7,7 +7,7 @@ ghost use lib.ListN.{length};
 ghost use Rattle.plan.specs.APlan.{points, recordsOf};
 ghost use Rattle.plan.specs.ReplyNumbers.{checkOf};
 ghost use Rattle.moments.specs.Inside.{Laid};
-ghost use Rattle.calendar.specs.Calendars.{momentOf, eventsOf, eventsLength, textLength, calendarOf, writtenOf};
+ghost use Rattle.calendar.specs.Calendars.{momentOf, eventsOf, eventsLength, textLength, calendarText, calendarOf, writtenOf};
 use board::Board;
 use board::minute_of;
 use dates::Stamp;
@@ -76,4 +76,55 @@ fn put_events(out: &mut [u8], at: usize, plan: Plan, n: u32, board: Board, origi
         p += 1;
     }
     next
+}
+
+// The whole text of a board of an accepted plan with n points, from the buffer's front on.
+fn put_calendar(out: &mut [u8], plan: Plan, n: u32, board: Board, origin: Stamp) -> usize
+    requires { ⌜ (checkOf plan .number ≡ 0) × (n ≡ points (recordsOf plan)) ⌝ }
+    requires { ⌜ textLength (recordsOf plan) ≤ length (now out) ⌝ }
+    ensures { λ next. ⌜ Laid (now (out .entry)) 0 (calendarText (recordsOf plan) board origin) (now (out .exit)) next ⌝ }
+{
+    let first = put(
+        out,
+        0,
+        b"BEGIN:VCALENDAR\r\nVERSION:2.0\r\nPRODID:-//Ponds//Sheets//EN\r\n",
+    );
+    let end = put_events(out, first, plan, n, board, origin);
+    put(out, end, b"END:VCALENDAR\r\n")
+}
+
+// Writes a finished board as an iCalendar text into the front of the buffer; a refusal changes no byte of it.
+pub fn write_calendar(plan: Plan, board: Board, origin: Stamp, out: &mut [u8]) -> Calendar
+    ensures reply { λ r. ⌜ r ≡ calendarOf plan board origin (now (out .entry)) ⌝ }
+    ensures bytes { λ _. ⌜ now (out .exit) ≡ writtenOf plan board origin (now (out .entry)) ⌝ }
+{
+    let found = ended(plan, board);
+    if found.number != ACCEPTED {
+        return Calendar {
+            number: found.number,
+            place: found.place,
+            length: 0,
+        };
+    }
+    if !is_origin(origin) {
+        return Calendar {
+            number: NO_ORIGIN,
+            place: 0,
+            length: 0,
+        };
+    }
+    let n = points_of(plan);
+    if out.len() < text_length(plan, n) {
+        return Calendar {
+            number: NO_ROOM,
+            place: 0,
+            length: 0,
+        };
+    }
+    let length = put_calendar(out, plan, n, board, origin);
+    Calendar {
+        number: ACCEPTED,
+        place: 0,
+        length: length,
+    }
 }

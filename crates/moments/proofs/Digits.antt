@@ -57,10 +57,10 @@ stored-turn {before} {out} {at} {n} {next} {i} {m} s h =
       place = omega arith;
       inside = omega (arith, s .inside);
       left =
-        ap (λ (q : ℕ). laid (set out q (48 + m % 10)) at (decimal (m / 10))) w
-        ∙ laid-store out at (decimal (m / 10)) (48 + m % 10) (omega (arith, s .long, s .room, s .inside))
-        ∙ ap (λ (t : List ℕ). laid out at t) (sym e)
-        ∙ s .left;
+          ap (λ (q : ℕ). laid (set out q (48 + m % 10)) at (decimal (m / 10))) w
+          ∙ laid-store out at (decimal (m / 10)) (48 + m % 10) (omega (arith, s .long, s .room, s .inside))
+          ∙ ap (λ (t : List ℕ). laid out at t) (sym e)
+          ∙ s .left;
     }
 
 -- and where m has more digits than one, there is a place before it
@@ -74,9 +74,9 @@ stored-end {before} {out} {at} {n} {next} {i} {m} s h =
     record {
       fits = omega (arith, s .room, s .behind);
       bytes =
-        ap (λ (q : ℕ). set out q (48 + m)) w
-        ∙ laid-one out at (48 + m) (omega (arith, s .long, s .room, s .inside))
-        ∙ ap (λ (t : List ℕ). laid out at t) (sym (one-digit m h))
-        ∙ s .left;
+          ap (λ (q : ℕ). set out q (48 + m)) w
+          ∙ laid-one out at (48 + m) (omega (arith, s .long, s .room, s .inside))
+          ∙ ap (λ (t : List ℕ). laid out at t) (sym (one-digit m h))
+          ∙ s .left;
       behind = s .behind;
     }

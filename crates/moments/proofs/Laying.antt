@@ -33,9 +33,9 @@ pub laid-laid : (out : List ℕ) (at : ℕ) (t u : List ℕ) → at + length t �
 laid-laid out at t u h =
     let n : at + length (t ++ u) ≡ at + length t + length u = omega (arith, length-append t u) in
     let d : drop (at + length t + length u) (laid out at t) ≡ drop (at + length t + length u) out =
-        sym (drop-drop (length u) (at + length t) (laid out at t))
-        ∙ ap (λ (l : List ℕ). drop (length u) l) (laid-behind out at t h)
-        ∙ drop-drop (length u) (at + length t) out in
+    sym (drop-drop (length u) (at + length t) (laid out at t))
+    ∙ ap (λ (l : List ℕ). drop (length u) l) (laid-behind out at t h)
+    ∙ drop-drop (length u) (at + length t) out in
     rw (n, laid-front out at t h, d, append-assoc (take at out) t (u ++ drop (at + length t + length u) out), append-assoc t u (drop (at + length t + length u) out))
 
 -- the buffer is as long as it was
@@ -67,9 +67,9 @@ laid-store out at t d h =
     let n : at + length (t ++ (d ∷ [])) ≡ suc (at + length t) = omega (arith, length-append t (d ∷ [])) in
     let z : at + length t + 0 ≡ at + length t = omega arith in
     let b : drop (at + length t) (set out (at + length t) d) ≡ d ∷ drop (suc (at + length t)) out =
-        ap (λ (k : ℕ). drop (at + length t) (set out k d)) (sym z)
-        ∙ drop-set-add (at + length t) out 0 d
-        ∙ ap (λ (l : List ℕ). set l 0 d) (drop-cons out (at + length t) 0 h) in
+    ap (λ (k : ℕ). drop (at + length t) (set out k d)) (sym z)
+    ∙ drop-set-add (at + length t) out 0 d
+    ∙ ap (λ (l : List ℕ). set l 0 d) (drop-cons out (at + length t) 0 h) in
     rw (n, take-set-le at out (at + length t) d (omega arith), b, append-assoc t (d ∷ []) (drop (suc (at + length t)) out))
 
 -- a byte alone

@@ -15,7 +15,6 @@ put-requires : tie.Need-put-requires
 put-requires c κs =
     let s = c .before .before .before in
     let a = s .args in
-    
     record { fits = omega (arith, s .pre .fits, event-parts (a .p) (a .code) (a .moment)) }
 
 put-uid-requires : tie.Need-put-uid-requires

@@ -10,7 +10,6 @@ put-requires : tie.Need-put-requires
 put-requires c κs =
     let s = c .before .before .before in
     let a = s .args in
-    
     record { fits = omega (arith, s .pre .fits, moment-long (a .name .now) (a .t4)) }
 
 slice-aggregate-put : tie.Need-slice-aggregate-put

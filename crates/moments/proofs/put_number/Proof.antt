@@ -26,7 +26,7 @@ sub-i : tie.Need-sub-i Inv-loop μ-loop
 sub-i c = omega (arith, c .digits-of .ensures, some-long (c .before .before .args .n))
 
 loop-holds : tie.Need-loop-holds Inv-loop μ-loop
-loop-holds c = 
+loop-holds c =
     let s = c .before .before in
     rw (c .digits-of .ensures) (stored-start (s .args .out .now) (s .args .at) (s .args .n) (s .fits .n .fits) (s .pre))
 
@@ -37,7 +37,7 @@ add-out : tie.Need-add-out Inv-loop μ-loop
 add-out c = search needs
 
 slice-write-out : tie.Need-slice-write-out Inv-loop μ-loop
-slice-write-out c = 
+slice-write-out c =
     let s = c .before .loop .inv in
     omega (arith, s .long, s .room, s .inside)
 
@@ -57,7 +57,7 @@ add-out-2 : tie.Need-add-out-2 Inv-loop μ-loop
 add-out-2 c = search needs
 
 slice-write-out-2 : tie.Need-slice-write-out-2 Inv-loop μ-loop
-slice-write-out-2 c = 
+slice-write-out-2 c =
     let s = c .before .loop .inv in
     omega (arith, s .long, s .room, s .inside)
 

@@ -111,6 +111,13 @@ in-year d n e k =
       inside = omega (arith, next-part (daysIn (d .year)) (d .month), whole-year (d .year));
     }
 
+-- A date's number is past the days of the years before, and not past those of its own.
+pub of-year : (d : Date) → isDate d ≡ true → (before daysOf (d .year) < dayNumber d) × (dayNumber d ≤ before daysOf (d .year + 1))
+of-year d e =
+    let r = date-day d e in
+    let f = in-year d (dayNumber d - 1) e (omega arith) in
+    (omega arith, omega (arith, next-part daysOf (d .year), f .inside))
+
 -- A date's place in its month.
 in-month : (d : Date) (n : ℕ) → isDate d ≡ true → before (daysIn (d .year)) (d .month) + (d .day - 1) ≡ n → Falls (daysIn (d .year)) n (d .month) (d .day - 1)
 in-month d n e k = let r = date-day d e in record { counted = k; inside = omega arith }

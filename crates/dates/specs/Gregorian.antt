@@ -6,6 +6,13 @@ use lib.Dec.{eqb, leb, ltb}
 use Rattle.numbers.specs.Choice.{if_then_else_}
 use Rattle.dates.specs.declared.Stamp.{Stamp}
 
+-- the years of which minute 0 may be
+abbrev pub firstYear : ℕ
+firstYear = 1970
+
+abbrev pub lastYear : ℕ
+lastYear = 2099
+
 -- A year, a month (January is 1) and a day of the month (the first is 1).
 pub record Date : Type 0 where
   pub year : ℕ
@@ -57,9 +64,9 @@ clock d t = record { year = d .year; month = d .month; day = d .day; hour = t / 
 abbrev pub isStamp : Stamp → Bool
 isStamp s = isDate (dateOf s) && (ltb (s .hour) 24 && ltb (s .minute) 60)
 
--- what a caller may give for minute 0: a date, hour and minute between 1970 and 2099
+-- what a caller may give for minute 0: a date, hour and minute of one of those years
 unfoldable pub isOrigin : Stamp → Bool
-isOrigin s = (leb 1970 (s .year) && leb (s .year) 2099) && isStamp s
+isOrigin s = (leb firstYear (s .year) && leb (s .year) lastYear) && isStamp s
 
 -- The date, hour and minute that minute m shows, where minute 0 is the origin: 1440 minutes make a day. An origin that is none is
 -- given back as it is.

@@ -23,13 +23,19 @@ pub record Date : Type 0 where
 unfoldable pub leap : ℕ → Bool
 leap y = (eqb (y % 4) 0 && not (eqb (y % 100) 0)) || eqb (y % 400) 0
 
--- the days of a month: February has 28, in a leap year 29; April, June, September and November 30; the others 31. A number that is no
--- month has none.
+-- January is month 1 and December month 12
+abbrev pub isMonth : ℕ → Bool
+isMonth m = leb 1 m && leb m 12
+
+-- April, June, September and November
+abbrev pub hasThirty : ℕ → Bool
+hasThirty m = eqb m 4 || (eqb m 6 || (eqb m 9 || eqb m 11))
+
+-- the days of a month: February has 28, in a leap year 29; those four have 30, and the others 31. A number that is no month has none.
 unfoldable pub daysIn : ℕ → ℕ → ℕ
 daysIn y m =
-    if eqb m 2 then (if leap y then 29 else 28)
-    else if eqb m 4 || (eqb m 6 || (eqb m 9 || eqb m 11)) then 30
-    else if leb 1 m && leb m 12 then 31
+    if isMonth m then
+    (if eqb m 2 then (if leap y then 29 else 28) else if hasThirty m then 30 else 31)
     else 0
 
 -- it is a date: the month has such a day

@@ -39,12 +39,14 @@ fn is_leap(year: u32) -> bool
 fn days_in(year: u32, month: u32) -> u32
     ensures { λ n. ⌜ n ≡ daysIn year month ⌝ }
 {
-    if month == 2 {
-        if is_leap(year) { 29 } else { 28 }
-    } else if (month == 4) | ((month == 6) | ((month == 9) | (month == 11))) {
-        30
-    } else if (1 <= month) & (month <= 12) {
-        31
+    if (1 <= month) & (month <= 12) {
+        if month == 2 {
+            if is_leap(year) { 29 } else { 28 }
+        } else if (month == 4) | ((month == 6) | ((month == 9) | (month == 11))) {
+            30
+        } else {
+            31
+        }
     } else {
         0
     }

@@ -7,7 +7,7 @@ use native.Mathlib.Omega.{arith}
 use lib.Dec.{eqb, leb, ltb}
 use borrow.Author.Tests.{eqb-true, eqb-false, ltb-true, ltb-false, leb-true, leb-false, le-leb, lt-ltb, le-ltb}
 use Rattle.numbers.specs.Choice.{if_then_else_}
-use Rattle.dates.specs.Gregorian.{Date, leap, daysIn, isDate, nextDay, daysLater}
+use Rattle.dates.specs.Gregorian.{Date, leap, isMonth, hasThirty, daysIn, isDate, nextDay, daysLater}
 use Rattle.dates.specs.Counting.{daysOf, before, dayNumber, Falls}
 use Rattle.dates.proofs.Sums.{next-part, rises, falls-once}
 
@@ -17,38 +17,36 @@ pub record Length (m n : ℕ) : Type 0 where
   pub month : 1 ≤ n → (1 ≤ m) × (m ≤ 12)
   pub some : 1 ≤ m → m ≤ 12 → 28 ≤ n
 
-short : (b : Bool) → (28 ≤ (if b then 29 else 28)) × ((if b then 29 else 28) ≤ 31)
-short true = (omega arith, omega arith)
-short false = (omega arith, omega arith)
+-- some days of a month, by the tests that they go by: it is one, it is February, the year is a leap year, it has thirty
+abbrev byTests : Bool → Bool → Bool → Bool → ℕ
+byTests a b c d = if a then (if b then (if c then 29 else 28) else if d then 30 else 31) else 0
+
+-- What the tests say gives the days of the month.
+pub chosen : (y m : ℕ) (a b c d : Bool) → isMonth m ≡ a → eqb m 2 ≡ b → leap y ≡ c → hasThirty m ≡ d → byTests a b c d ≡ daysIn y m
+unfolding daysIn
+chosen y m a b c d e f g h = sym (rw (e, f, g, h))
 
 pub length-of : (y m : ℕ) → Length m (daysIn y m)
-unfolding daysIn
-length-of y m = second (eqb m 2) refl
+length-of y m =
+    rw (← chosen y m (isMonth m) (eqb m 2) (leap y) (hasThirty m) refl refl refl refl) (go (isMonth m) refl (eqb m 2) (leap y) (hasThirty m))
   where
-    other : (b : Bool) → (leb 1 m && leb m 12) ≡ b → Length m (if b then 31 else 0)
-    other true e =
+    go : (a : Bool) → isMonth m ≡ a → (b c d : Bool) → Length m (byTests a b c d)
+    go true e b c d =
         let r = and-eq-true-iff (leb 1 m) (leb m 12) .0 e in
-        let l = leb-true 1 m (r .0) in
-        let h = leb-true m 12 (r .1) in
-        record { most = omega arith; month = λ o. (l, h); some = λ a b. omega arith }
-    other false e =
-        record { most = omega arith; month = λ o. absurd (omega arith); some = λ a b. absurd (true≢false (sym (and-eq-true-iff (leb 1 m) (leb m 12) .1 (le-leb 1 m a, le-leb m 12 b)) ∙ e)) }
-
-    thirty : (a b c d : Bool) → eqb m 4 ≡ a → eqb m 6 ≡ b → eqb m 9 ≡ c → eqb m 11 ≡ d
-        → Length m (if a || (b || (c || d)) then 30 else if leb 1 m && leb m 12 then 31 else 0)
-    thirty true b c d e _ _ _ = let k = eqb-true m 4 e in record { most = omega arith; month = λ o. (omega arith, omega arith); some = λ a b. omega arith }
-    thirty false true c d _ e _ _ = let k = eqb-true m 6 e in record { most = omega arith; month = λ o. (omega arith, omega arith); some = λ a b. omega arith }
-    thirty false false true d _ _ e _ = let k = eqb-true m 9 e in record { most = omega arith; month = λ o. (omega arith, omega arith); some = λ a b. omega arith }
-    thirty false false false true _ _ _ e = let k = eqb-true m 11 e in record { most = omega arith; month = λ o. (omega arith, omega arith); some = λ a b. omega arith }
-    thirty false false false false _ _ _ _ = other (leb 1 m && leb m 12) refl
-
-    second : (b : Bool) → eqb m 2 ≡ b
-        → Length m (if b then (if leap y then 29 else 28) else if eqb m 4 || (eqb m 6 || (eqb m 9 || eqb m 11)) then 30 else if leb 1 m && leb m 12 then 31 else 0)
-    second true e =
-        let k = eqb-true m 2 e in
-        let s = short (leap y) in
-        record { most = s .1; month = λ o. (omega arith, omega arith); some = λ a b. s .0 }
-    second false e = thirty (eqb m 4) (eqb m 6) (eqb m 9) (eqb m 11) refl refl refl refl
+        let n = some-days b c d in
+        record { most = n .1; month = λ o. (leb-true 1 m (r .0), leb-true m 12 (r .1)); some = λ l h. n .0 }
+      where
+        some-days : (b c d : Bool) → (28 ≤ byTests true b c d) × (byTests true b c d ≤ 31)
+        some-days true true d = (omega arith, omega arith)
+        some-days true false d = (omega arith, omega arith)
+        some-days false c true = (omega arith, omega arith)
+        some-days false c false = (omega arith, omega arith)
+    go false e b c d =
+        record {
+          most = omega arith;
+          month = λ o. absurd (omega arith);
+          some = λ l h. absurd (true≢false (sym (and-eq-true-iff (leb 1 m) (leb m 12) .1 (le-leb 1 m l, le-leb m 12 h)) ∙ e));
+        }
 
 -- A year's months are its days.
 pub whole-year : (y : ℕ) → before (daysIn y) 13 ≡ daysOf y
@@ -110,6 +108,13 @@ in-year d n e k =
       counted = omega arith;
       inside = omega (arith, next-part (daysIn (d .year)) (d .month), whole-year (d .year));
     }
+
+-- A date's number is past the days of the years before, and not past those of its own.
+pub of-year : (d : Date) → isDate d ≡ true → (before daysOf (d .year) < dayNumber d) × (dayNumber d ≤ before daysOf (d .year + 1))
+of-year d e =
+    let r = date-day d e in
+    let f = in-year d (dayNumber d - 1) e (omega arith) in
+    (omega arith, omega (arith, next-part daysOf (d .year), f .inside))
 
 -- A date's place in its month.
 in-month : (d : Date) (n : ℕ) → isDate d ≡ true → before (daysIn (d .year)) (d .month) + (d .day - 1) ≡ n → Falls (daysIn (d .year)) n (d .month) (d .day - 1)

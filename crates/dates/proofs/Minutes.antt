@@ -7,7 +7,7 @@ use lib.Dec.{leb, ltb}
 use borrow.Author.Tests.{ltb-true, leb-true}
 use Rattle.numbers.specs.Choice.{if_then_else_}
 use Rattle.dates.specs.declared.Stamp.{Stamp}
-use Rattle.dates.specs.Gregorian.{Date, daysIn, isDate, daysLater, dateOf, minuteOf, clock, isStamp, isOrigin, shown}
+use Rattle.dates.specs.Gregorian.{firstYear, lastYear, Date, daysIn, isDate, daysLater, dateOf, minuteOf, clock, isStamp, isOrigin, shown}
 use Rattle.dates.specs.Counting.{daysOf, before, dayNumber, Falls}
 use Rattle.dates.proofs.Sums.{next-part, rises}
 use Rattle.dates.proofs.Days.{date-day, date-month, is-date, same-date, later, whole-year, year-long}
@@ -27,8 +27,8 @@ on-clock s e =
 -- What an origin is.
 pub record Origin (s : Stamp) : Type 0 where
   pub clocked : OnClock s
-  pub first : 1970 ≤ s .year
-  pub last : s .year ≤ 2099
+  pub first : firstYear ≤ s .year
+  pub last : s .year ≤ lastYear
   pub low : 1 ≤ s .day
   pub high : s .day ≤ daysIn (s .year) (s .month)
   pub month : s .month ≤ 12
@@ -37,16 +37,16 @@ pub record Origin (s : Stamp) : Type 0 where
 pub origin-of : (s : Stamp) → isOrigin s ≡ true → Origin s
 unfolding isOrigin
 origin-of s e =
-    let r = and-eq-true-iff (leb 1970 (s .year) && leb (s .year) 2099) (isStamp s) .0 e in
-    let y = and-eq-true-iff (leb 1970 (s .year)) (leb (s .year) 2099) .0 (r .0) in
+    let r = and-eq-true-iff (leb firstYear (s .year) && leb (s .year) lastYear) (isStamp s) .0 e in
+    let y = and-eq-true-iff (leb firstYear (s .year)) (leb (s .year) lastYear) .0 (r .0) in
     let k = on-clock s (r .1) in
     let d = date-day (dateOf s) (k .date) in
     let m = date-month (dateOf s) (k .date) in
     let n = next-part (daysIn (s .year)) (s .month) in
     record {
       clocked = k;
-      first = leb-true 1970 (s .year) (y .0);
-      last = leb-true (s .year) 2099 (y .1);
+      first = leb-true firstYear (s .year) (y .0);
+      last = leb-true (s .year) lastYear (y .1);
       low = d .0;
       high = d .1;
       month = m .1;

@@ -23,6 +23,10 @@ dayNumber d = before daysOf (d .year) + before (daysIn (d .year)) (d .month) + d
 abbrev pub minuteNumber : Stamp → ℕ
 minuteNumber s = dayNumber (dateOf s) * 1440 + minuteOf s
 
+-- years and days up to which the code counts: far more than any minute of an origin reaches
+abbrev pub farthest : ℕ
+farthest = 1000000000
+
 -- Day number n, the first being 0, is day `left` of part `part` (a year, or a month), the first being 0, where part k has f k days.
 pub record Falls (f : ℕ → ℕ) (n part left : ℕ) : Type 0 where
   pub counted : before f part + left ≡ n

@@ -6,6 +6,13 @@ use lib.Dec.{eqb, leb, ltb}
 use Rattle.numbers.specs.Choice.{if_then_else_}
 use Rattle.dates.specs.declared.Stamp.{Stamp}
 
+-- the years of which minute 0 may be
+abbrev pub firstYear : ℕ
+firstYear = 1970
+
+abbrev pub lastYear : ℕ
+lastYear = 2099
+
 -- A year, a month (January is 1) and a day of the month (the first is 1).
 pub record Date : Type 0 where
   pub year : ℕ
@@ -16,13 +23,19 @@ pub record Date : Type 0 where
 unfoldable pub leap : ℕ → Bool
 leap y = (eqb (y % 4) 0 && not (eqb (y % 100) 0)) || eqb (y % 400) 0
 
--- the days of a month: February has 28, in a leap year 29; April, June, September and November 30; the others 31. A number that is no
--- month has none.
+-- January is month 1 and December month 12
+abbrev pub isMonth : ℕ → Bool
+isMonth m = leb 1 m && leb m 12
+
+-- April, June, September and November
+abbrev pub hasThirty : ℕ → Bool
+hasThirty m = eqb m 4 || (eqb m 6 || (eqb m 9 || eqb m 11))
+
+-- the days of a month: February has 28, in a leap year 29; those four have 30, and the others 31. A number that is no month has none.
 unfoldable pub daysIn : ℕ → ℕ → ℕ
 daysIn y m =
-    if eqb m 2 then (if leap y then 29 else 28)
-    else if eqb m 4 || (eqb m 6 || (eqb m 9 || eqb m 11)) then 30
-    else if leb 1 m && leb m 12 then 31
+    if isMonth m then
+    (if eqb m 2 then (if leap y then 29 else 28) else if hasThirty m then 30 else 31)
     else 0
 
 -- it is a date: the month has such a day
@@ -57,9 +70,9 @@ clock d t = record { year = d .year; month = d .month; day = d .day; hour = t / 
 abbrev pub isStamp : Stamp → Bool
 isStamp s = isDate (dateOf s) && (ltb (s .hour) 24 && ltb (s .minute) 60)
 
--- what a caller may give for minute 0: a date, hour and minute between 1970 and 2099
+-- what a caller may give for minute 0: a date, hour and minute of one of those years
 unfoldable pub isOrigin : Stamp → Bool
-isOrigin s = (leb 1970 (s .year) && leb (s .year) 2099) && isStamp s
+isOrigin s = (leb firstYear (s .year) && leb (s .year) lastYear) && isStamp s
 
 -- The date, hour and minute that minute m shows, where minute 0 is the origin: 1440 minutes make a day. An origin that is none is
 -- given back as it is.

@@ -4,7 +4,12 @@
 ghost use mathlib.Core.Path.{_≡_};
 ghost use Prim.Native.Nat.{_+_, _<_, _≤_};
 ghost use Rattle.dates.specs.Gregorian.{isOrigin, shown, leap, daysIn};
-ghost use Rattle.dates.specs.Counting.{daysOf, before, Falls};
+ghost use Rattle.dates.specs.Counting.{daysOf, before, farthest, Falls};
+
+// The years of which minute 0 may be.
+pub const FIRST_YEAR: u32 = 1970;
+
+pub const LAST_YEAR: u32 = 2099;
 
 // The minutes of a day.
 const DAY: u32 = 1440;
@@ -34,12 +39,14 @@ fn is_leap(year: u32) -> bool
 fn days_in(year: u32, month: u32) -> u32
     ensures { λ n. ⌜ n ≡ daysIn year month ⌝ }
 {
-    if month == 2 {
-        if is_leap(year) { 29 } else { 28 }
-    } else if (month == 4) | ((month == 6) | ((month == 9) | (month == 11))) {
-        30
-    } else if (1 <= month) & (month <= 12) {
-        31
+    if (1 <= month) & (month <= 12) {
+        if month == 2 {
+            if is_leap(year) { 29 } else { 28 }
+        } else if (month == 4) | ((month == 6) | ((month == 9) | (month == 11))) {
+            30
+        } else {
+            31
+        }
     } else {
         0
     }
@@ -56,7 +63,7 @@ pub fn is_origin(s: Stamp) -> bool
     ensures { λ t. ⌜ t ≡ isOrigin s ⌝ }
 {
     let is_date = (1 <= s.day) & (s.day <= days_in(s.year, s.month));
-    ((1970 <= s.year) & (s.year <= 2099)) & (is_date & ((s.hour < 24) & (s.minute < 60)))
+    ((FIRST_YEAR <= s.year) & (s.year <= LAST_YEAR)) & (is_date & ((s.hour < 24) & (s.minute < 60)))
 }
 
 // The days of a year before one of its months.
@@ -75,7 +82,7 @@ fn days_before(year: u32, month: u32) -> u32
 
 // The year in which the day falls that is so many days after the first of January of `from`.
 fn year_of(from: u32, days: u32) -> Place
-    requires { ⌜ from + days < 1000000000 ⌝ }
+    requires { ⌜ from + days < farthest ⌝ }
     ensures { λ p. ⌜ Falls daysOf (before daysOf from + days) (p .part) (p .left) ⌝ }
 {
     let mut year = from;

@@ -2,3 +2,4 @@
 pub mod Lengths
 pub mod Going
 pub mod Writing
+pub mod Lined

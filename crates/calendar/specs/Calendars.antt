@@ -61,6 +61,10 @@ eventsLength rs (suc n) = eventsLength rs n + eventLength n (pondCode rs n)
 unfoldable pub textLength : List Record → ℕ
 textLength rs = length heading + eventsLength rs (points rs) + length ending
 
+-- no sheet's text is longer
+abbrev pub mostText : ℕ
+mostText = 4_278
+
 abbrev pub answer : ℕ → ℕ → ℕ → Calendar
 answer n i k = record { number = n; place = i; length = k }
 

@@ -7,7 +7,7 @@ ghost use lib.ListN.{length};
 ghost use Rattle.plan.specs.APlan.{points, recordsOf};
 ghost use Rattle.plan.specs.ReplyNumbers.{checkOf};
 ghost use Rattle.moments.specs.Inside.{Laid};
-ghost use Rattle.calendar.specs.Calendars.{momentOf, eventsOf, eventsLength, textLength, calendarText, calendarOf, writtenOf};
+ghost use Rattle.calendar.specs.Calendars.{momentOf, eventsOf, eventsLength, textLength, calendarText, mostText, calendarOf, writtenOf};
 use board::Board;
 use board::minute_of;
 use dates::Stamp;
@@ -28,6 +28,9 @@ pub const NO_ORIGIN: u32 = 51;
 
 pub const NO_ROOM: u32 = 52;
 
+// No sheet's text is longer than this: 32 points with the longest pond codes.
+pub const MOST_TEXT: usize = 4_278;
+
 // How long the lines before the events and the one behind them are.
 const AROUND: usize = 74;
 
@@ -36,6 +39,13 @@ pub struct Calendar {
     pub number: u32,
     pub place: u32,
     pub length: usize,
+}
+
+// A buffer of so many bytes is enough for every sheet.
+pub fn most_text() -> usize
+    ensures { λ n. ⌜ n ≡ mostText ⌝ }
+{
+    MOST_TEXT
 }
 
 // The moment at which a point was done.

@@ -1,10 +1,13 @@
 -- The decimal digits of a number, one by one: how many they are, and how they are stored from the last one back. Assumes nothing.
 use mathlib.Core.Path.{_≡_, refl, sym, ap, _∙_}
-use mathlib.Core.List.{List, [], _∷_, _++_}
-use Prim.Native.Nat.{ℕ, _+_, _-_, _/_, _%_, _≤_, _<_, _^_}
+use mathlib.Core.List.{List, [], _∷_, _++_, append-assoc}
+use mathlib.Core.Logic.{by-cases}
+use Prim.Native.Nat.{ℕ, zero, suc, _+_, _-_, _*_, _/_, _%_, _≤_, _<_, _^_}
 use mathlib.Core.Bool.{cond}
 use native.Mathlib.Omega.{arith}
-use lib.Dec.{ltb}
+use lib.Dec.{eqb, ltb}
+use native.Mathlib.Decide.{decLt}
+use borrow.Author.Tests.{ne-eqb}
 use lib.ListN.{length, set, length-append, length-set}
 use Rattle.lines.specs.Text.{decimal, digits}
 use Rattle.lines.proofs.Adding.{one-digit, more-digits}
@@ -80,3 +83,46 @@ stored-end {before} {out} {at} {n} {next} {i} {m} s h =
           ∙ s .left;
       behind = s .behind;
     }
+
+-- ---- how many digits there are at most, and that they say the number
+
+-- a number below a power of ten has no more digits than that
+pub few-below : (k n : ℕ) → n < 10 ^ suc k → n < 2 ^ 32 → length (decimal n) ≤ suc k
+few-below zero n h f = omega (arith, one-long n (omega arith))
+few-below (suc k) n h f =
+    by-cases (decLt n 10) (λ l. omega (arith, one-long n l))
+    (λ l. omega (arith, more-long n (omega (arith, l)) f, few-below k (n / 10) (omega arith) (omega arith)))
+
+-- the number that the digits before a hyphen say, after those that say a
+unfoldable pub toHyphen : ℕ → List ℕ → ℕ
+toHyphen a [] = a
+toHyphen a (c ∷ s) = cond (eqb c 45) a (toHyphen (10 * a + (c - 48)) s)
+
+one-read : (a d : ℕ) (s : List ℕ) → d < 10 → toHyphen a ((48 + d) ∷ s) ≡ toHyphen (10 * a + d) s
+unfolding toHyphen
+one-read a d s h =
+    let e : 10 * a + (48 + d - 48) ≡ 10 * a + d = omega arith in
+    rw (ne-eqb (48 + d) 45 (λ f. omega (arith, f)), e)
+
+read-one : (n : ℕ) (s : List ℕ) → n < 10 → toHyphen 0 (decimal n ++ s) ≡ toHyphen n s
+read-one n s l =
+    let e : 10 * 0 + n ≡ n = omega arith in
+    rw (one-digit n l) (one-read 0 n s l ∙ ap (λ (q : ℕ). toHyphen q s) e)
+
+read-more : (n : ℕ) (s : List ℕ) → 10 ≤ n → n < 2 ^ 32
+    → toHyphen 0 (decimal (n / 10) ++ ((48 + n % 10) ∷ s)) ≡ toHyphen (n / 10) ((48 + n % 10) ∷ s) → toHyphen 0 (decimal n ++ s) ≡ toHyphen n s
+read-more n s m f g =
+    let e : 10 * (n / 10) + n % 10 ≡ n = omega arith in
+    rw (more-than n m f, append-assoc (decimal (n / 10)) ((48 + n % 10) ∷ []) s)
+    (g ∙ one-read (n / 10) (n % 10) s (omega arith) ∙ ap (λ (q : ℕ). toHyphen q s) e)
+
+read-digits : (k n : ℕ) (s : List ℕ) → n < 10 ^ suc k → n < 2 ^ 32 → toHyphen 0 (decimal n ++ s) ≡ toHyphen n s
+read-digits zero n s h f = read-one n s (omega arith)
+read-digits (suc k) n s h f =
+    by-cases (decLt n 10) (λ l. read-one n s l)
+    (λ l. read-more n s (omega (arith, l)) f (read-digits k (n / 10) ((48 + n % 10) ∷ s) (omega arith) (omega arith)))
+
+-- the number before a hyphen can be read
+pub read-back : (n : ℕ) (s : List ℕ) → n < 2 ^ 32 → toHyphen 0 (decimal n ++ (45 ∷ s)) ≡ n
+unfolding toHyphen
+read-back n s f = read-digits 9 n (45 ∷ s) (omega arith) f

@@ -3,3 +3,4 @@ pub mod Lengths
 pub mod Going
 pub mod Writing
 pub mod Lined
+pub mod Theorems

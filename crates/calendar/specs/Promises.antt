@@ -5,8 +5,10 @@ use mathlib.Core.Bool.{Bool, true, _&&_}
 use mathlib.Core.List.{List, [], _∷_, _++_}
 use Prim.Native.Nat.{ℕ, _^_, _≤_, _<_}
 use lib.Dec.{leb}
-use lib.ListN.{length}
+use lib.IntN.{pos}
+use lib.ListN.{length, replicate}
 use Rattle.numbers.specs.Fits.{All}
+use Rattle.plan.specs.Limits.{mostPoints}
 use Rattle.plan.specs.APlan.{points, recordsOf}
 use Rattle.plan.specs.Held.{HeldPlan}
 use Rattle.plan.specs.declared.Plan.{Plan}
@@ -60,3 +62,10 @@ LengthOfText = (rs : List Record) (b : Board) (origin : Stamp) → length (calen
 abbrev pub Enough : Type 0
 Enough = (p : Plan) (b : Board) (origin : Stamp) (out : List ℕ) → HeldPlan p → endedOf p b .number ≡ 0 → isOrigin origin ≡ true
     → mostText ≤ length out → calendarOf p b origin out ≡ answer 0 0 (textLength (recordsOf p))
+
+-- 32 points with the longest pond codes, whose text is as long as a text can be
+abbrev pub fullest : List Record
+fullest = replicate mostPoints (record { kind = 1; a = 0; b = 0; first = pos 0; second = pos 0; code = 4_294_967_295 })
+
+abbrev pub ReachesMost : Type 0
+ReachesMost = textLength fullest ≡ mostText

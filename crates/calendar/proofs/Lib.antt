@@ -3,4 +3,5 @@ pub mod Lengths
 pub mod Going
 pub mod Writing
 pub mod Lined
+mod Starts
 pub mod Theorems

@@ -18,9 +18,10 @@ use Rattle.verdict.proofs.Broken.{ended-accepted}
 use Rattle.moments.specs.Event.{uidLine}
 use Rattle.moments.proofs.Digits.{few-below, toHyphen, read-back}
 use Rattle.calendar.specs.Calendars.{pondCode, eventsLength, textLength, mostText, answer}
-use Rattle.calendar.specs.Promises.{ShortLines, DifferentUids, LengthOfText, Enough, fullest, ReachesMost}
+use Rattle.calendar.specs.Promises.{ShortLines, DifferentUids, LengthOfText, Enough, ReachesMost, DifferentStarts}
 use Rattle.calendar.proofs.Lengths.{text-long, few-points, text-parts}
 use Rattle.calendar.proofs.Lined as lined
+use Rattle.calendar.proofs.Starts as starts
 use Rattle.calendar.proofs.Writing.{written}
 
 pub short-lines : ShortLines
@@ -33,7 +34,7 @@ length-of-text = text-long
 uid-says : (p : ℕ) (m : List ℕ) → p < 2 ^ 32 → toHyphen 0 (drop 4 (uidLine p m)) ≡ p
 uid-says p m h =
     let e : (decimal p ++ (45 ∷ [])) ++ m ++ (13 ∷ 10 ∷ []) ≡ decimal p ++ (45 ∷ (m ++ (13 ∷ 10 ∷ []))) =
-        append-assoc (decimal p ++ (45 ∷ [])) m (13 ∷ 10 ∷ []) ∙ append-assoc (decimal p) (45 ∷ []) (m ++ (13 ∷ 10 ∷ [])) in
+    append-assoc (decimal p ++ (45 ∷ [])) m (13 ∷ 10 ∷ []) ∙ append-assoc (decimal p) (45 ∷ []) (m ++ (13 ∷ 10 ∷ [])) in
     ap (λ (s : List ℕ). toHyphen 0 s) e ∙ read-back p (m ++ (13 ∷ 10 ∷ [])) h
 
 pub different-uids : DifferentUids
@@ -85,3 +86,6 @@ enough p b origin out h ok o k =
 pub reaches-most : ReachesMost
 unfolding textLength eventsLength howMany digits
 reaches-most = refl
+
+pub different-starts : DifferentStarts
+different-starts = starts.different-starts

@@ -69,3 +69,9 @@ fullest = replicate mostPoints (record { kind = 1; a = 0; b = 0; first = pos 0; 
 
 abbrev pub ReachesMost : Type 0
 ReachesMost = textLength fullest ≡ mostText
+
+-- two points that were done at different minutes never show the same DTSTART
+abbrev pub DifferentStarts : Type 0
+DifferentStarts = (p : Plan) (b : Board) (origin : Stamp) → endedOf p b .number ≡ 0 → isOrigin origin ≡ true
+    → (i j : ℕ) → i < points (recordsOf p) → j < points (recordsOf p)
+    → startLine (momentOf b origin i) ≡ startLine (momentOf b origin j) → minute b i ≡ minute b j

@@ -5,7 +5,8 @@ use Prim.Native.Nat.{ℕ, zero, suc, _+_, _-_, _≤_, _<_}
 use native.Mathlib.Omega.{arith}
 use lib.ListN.{length, take, drop, set, getD, length-append, length-drop, length-set, drop-of-length-le, take-append-drop}
 use lib.Seq.{length-take-le, take-at, drop-at, set-split, drop-drop, drop-cons, drop-set-add, take-set-le, take-all, take-length}
-use Rattle.moments.specs.Inside.{laid, Room, Laid}
+use Rattle.moments.specs.Inside.{laid, Laid}
+use Rattle.moments.proofs.ACase.{an-event}
 
 -- what has been put in has the length that was there
 pub laid-length : (out : List ℕ) (at : ℕ) (t : List ℕ) → at + length t ≤ length out → length (laid out at t) ≡ length out

@@ -67,7 +67,7 @@ module _ (rs : List Record) (r : Record) (ok : numberOf (after rs) r 0 ≡ 0) (w
       record {
         each = λ i h. by-cases (decLt i (points rs)) (λ l. old i l)
             (λ l. let q : i ≡ length rs = omega (arith, l) in
-                  rw (q, getD-append-seam rs r [] blank) (record { kind = e; number = a ∙ all }));
+            rw (q, getD-append-seam rs r [] blank) (record { kind = e; number = a ∙ all }));
         only = λ h. omega (arith, n, all, long);
       }
 

@@ -1,5 +1,5 @@
--- The first records of an accepted plan are its points, in the order of their numbers: a point's number is the next one, and kinds never
--- fall. Assumes nothing.
+-- The first records of an accepted plan are its points, in the order of their numbers: a point's number is the next one,
+-- and kinds never fall. Assumes nothing.
 use mathlib.Core.Path.{_≡_, refl, sym, ap, _∙_, subst}
 use mathlib.Core.Bool.{Bool, true, false}
 use mathlib.Core.List.{List, [], _∷_, _++_, map, append-nil}

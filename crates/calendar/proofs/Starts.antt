@@ -1,5 +1,5 @@
--- Two points that were done at different minutes never show the same DTSTART: a moment's sixteen bytes say its date, hour and minute, and
--- the minutes of a sheet are few enough for a year of four digits. Assumes nothing.
+-- Two points that were done at different minutes never show the same DTSTART: a moment's sixteen bytes say its date, hour
+-- and minute, and the minutes of a sheet are few enough for a year of four digits. Assumes nothing.
 use mathlib.Core.Path.{_≡_, refl, sym, ap, _∙_}
 use mathlib.Core.Bool.{Bool, true, false, not}
 use mathlib.Core.List.{List}

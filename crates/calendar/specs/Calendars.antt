@@ -10,7 +10,6 @@ use Rattle.values.specs.Ascii.{ascii}
 use Rattle.plan.specs.Choice.{if_then_else_}
 use Rattle.plan.specs.APlan.{points, blank, recordsOf}
 use Rattle.plan.specs.declared.Plan.{Plan}
-use Rattle.plan.specs.declared.Refusal.{Refusal}
 use Rattle.records.specs.declared.Record.{Record}
 use Rattle.board.specs.Boards.{minute}
 use Rattle.board.specs.declared.Board.{Board}

@@ -35,7 +35,7 @@ use Rattle.vee.proofs.Sheets.{to-sheet, from-sheet}
 use Rattle.vee.proofs.Testing.{accepted-plan, links-are, may-walk}
 use Rattle.choices.specs.Choices.{chosen, ChooseAsks, ChosenAs}
 use Rattle.choices.proofs.Decoding.{projection-chosen}
-use Rattle.dropping.specs.Spare.{Told, told-yes, told-no, Reaches, Enough, Spare, FitAsks, EnoughRows, AllAsks, AllEnough, SpareAsks}
+use Rattle.dropping.specs.Spare.{Told, told-yes, told-no, Reaches, Enough, Spare, FitAsks, EnoughRows, AllAsks, AllEnough, SpareReady, SpareAsks}
 
 -- what is told of one statement is told of another that holds exactly where it does
 pub told-of : {P Q : Type 0} {b : Bool} → (P → Q) → (Q → P) → Told P b → Told Q b
@@ -141,20 +141,23 @@ module _ {s : List ℕ} {m n k total x y most past i : ℕ} (f : Sofar s m n k t
 
 -- ---- the projections of a plan
 
-module _ {p : Plan} {r : Record} {total : ℕ} (a : SpareAsks p r total) where
+module _ {p : Plan} {r : Record} {total : ℕ} (asks : SpareAsks p r total) where
   -- a record that is not ordinary is needed
   pub spare-other : (r .kind ≡ 3 → ⊥) → Told (Spare (recordsOf p) r) false
   spare-other h = told-no (λ s. h (eqb-true (r .kind) 3 (s .is)))
-
-  pub spare-few : p .count ≤ mostRecords
-  spare-few = accepted-plan p (a .ok) .0
 
   module _ (kind : r .kind ≡ 3) where
     so : is ordinary r ≡ true
     so = rw kind refl
 
+    a : SpareReady p r total
+    a = asks .ready so
+
+    pub spare-few : p .count ≤ mostRecords
+    spare-few = accepted-plan p (a .ok) .0
+
     pub spare-bounds : {g : Gap} → g ≡ gapOf (r .first) → (g .up ≤ farthest) × (g .down ≤ farthest)
-    spare-bounds e = rw e (a .up so, a .down so)
+    spare-bounds e = rw e (a .up, a .down)
 
     module _ (long : length (p .records) ≡ mostRecords) {s : List ℕ} (laid : LaidOut (recordsOf p) s) {n k : ℕ} (en : n ≡ points (recordsOf p)) (ek : k ≡ links (recordsOf p)) {g : Gap} (eg : g ≡ gapOf (r .first)) (most : ℕ)
         (em : most + g .down ≡ middle + g .up) where
@@ -177,8 +180,8 @@ module _ {p : Plan} {r : Record} {total : ℕ} (a : SpareAsks p r total) where
           record {
             walk = rw (← all-records, en, ek) (may-walk (recordsOf p) v s laid room (rw (en, ek) at few));
             counted = a .counted ∙ ap many (sym same-links);
-            from = omega (arith, en, a .from so);
-            to = omega (arith, en, a .to so);
+            from = omega (arith, en, a .from);
+            to = omega (arith, en, a .to);
             small = omega (arith, em, spare-bounds eg);
           }
 

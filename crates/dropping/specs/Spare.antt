@@ -65,12 +65,16 @@ pub record AllAsks (s : List ℕ) (m n k total x y most : ℕ) : Type 0 where
 abbrev pub AllEnough : List ℕ → ℕ → ℕ → ℕ → ℕ → ℕ → ℕ → ℕ → Type 0
 AllEnough s m n k total x y most = (i : ℕ) → i < total → EnoughRows s (chosen (spansIn s (n + k) k) unset i) m x y most
 
--- the plan p is accepted and has so many projections, and the record r, if it is ordinary, is between its points and in bounds
-pub record SpareAsks (p : Plan) (r : Record) (total : ℕ) : Type 0 where
+-- the plan p is accepted and has so many projections, and the record r is between its points and in bounds
+pub record SpareReady (p : Plan) (r : Record) (total : ℕ) : Type 0 where
   pub ok : checkOf p .number ≡ 0
   pub counted : total ≡ many (spans (recordsOf p))
   pub few : total ≤ mostProjections
-  pub from : is ordinary r ≡ true → r .a < points (recordsOf p)
-  pub to : is ordinary r ≡ true → r .b < points (recordsOf p)
-  pub up : is ordinary r ≡ true → gapOf (r .first) .up ≤ farthest
-  pub down : is ordinary r ≡ true → gapOf (r .first) .down ≤ farthest
+  pub from : r .a < points (recordsOf p)
+  pub to : r .b < points (recordsOf p)
+  pub up : gapOf (r .first) .up ≤ farthest
+  pub down : gapOf (r .first) .down ≤ farthest
+
+-- this is asked only where r is ordinary
+pub record SpareAsks (p : Plan) (r : Record) (total : ℕ) : Type 0 where
+  pub ready : is ordinary r ≡ true → SpareReady p r total

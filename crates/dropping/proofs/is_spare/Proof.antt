@@ -14,7 +14,7 @@ returns : tie.Need-returns
 returns c = spare-other (c .before .before .pre) (c .if1 .taken)
 
 lay-out-requires : tie.Need-lay-out-requires
-lay-out-requires c κs = (spare-few (c .before .before .before .pre), length-replicate {A = ℕ} sheetRoom 0)
+lay-out-requires c κs = (spare-few (c .before .before .before .pre) (c .before .if1 .left), length-replicate {A = ℕ} sheetRoom 0)
 
 points-of-requires : tie.Need-points-of-requires
 points-of-requires c κs = search needs

@@ -7,7 +7,7 @@ use native.Mathlib.Omega.{arith}
 use native.Mathlib.Decide.{decLt}
 use native.Mathlib.Numerals.{add-one}
 use lib.Dec.{ltb, leb}
-use lib.ListN.{length, getD, set, take, drop, replicate, length-append, length-take, length-drop, List·getD-append}
+use lib.ListN.{length, getD, set, take, drop, replicate, length-append, length-take, length-drop, length-set, length-replicate, List·getD-append}
 use lib.Seq.{set-at, append-snoc, take-suc, take-all, getD-take, getD-drop, getD-append-add}
 use borrow.Author.Tests.{lt-ltb, le-ltb, le-leb, lt-leb}
 use Rattle.plan.specs.Limits.{mostRecords}
@@ -69,25 +69,55 @@ module _ (p : Plan) (k : ℕ) (long : length (p .records) ≡ mostRecords) (few 
             ∙ getD-take (p .count) (p .records) (i + 1) blank (omega (arith, length-append (take k rs) (drop (suc k) rs), length-drop (suc k) rs, t, all-of)))
       ]
 
-  -- ---- the loop
+-- ---- the loop
 
-  -- the first i are copied
-  abbrev pub Copied : List Record → ℕ → Type 0
-  Copied records i = (i ≤ length (but k (recordsOf p))) × (records ≡ take i (but k (recordsOf p)) ++ replicate (mostRecords - i) blank)
+-- the first i are copied
+pub record Copied (p : Plan) (k n : ℕ) (records : List Record) (i : ℕ) : Type 0 where
+  pub long : length (p .records) ≡ mostRecords
+  pub few : p .count ≤ mostRecords
+  pub room : length records ≡ mostRecords
+  pub many : n ≡ p .count - one (ltb k (p .count))
+  pub within : i ≤ n
+  pub so-far : records ≡ take i (but k (recordsOf p)) ++ replicate (mostRecords - i) blank
 
-  pub copied-none : Copied (replicate mostRecords blank) 0
-  copied-none = (omega arith, refl)
+pub one-below : (k c : ℕ) → one (ltb k c) ≤ c
+one-below k c = elim (decLt k c) [
+  | yes h ↦ rw (lt-ltb k c h) (omega arith)
+  | no h ↦ rw (le-ltb k c (omega arith)) (omega arith)
+]
 
-  module _ {records : List Record} {i n : ℕ} (en : n ≡ p .count - one (ltb k (p .count))) (f : Copied records i) where
-    pub copied-more : i < n → {j : ℕ} → j ≡ i + one (leb k i) → Copied (set records i (getD (p .records) j blank)) (i + 1)
-    copied-more l {j} ej =
-        let m : i < length (but k rs) = omega (arith, en, fewer) in
-        let z : take (i + 1) (but k rs) ≡ take i (but k rs) ++ (getD (p .records) j blank ∷ []) =
-        rw (add-one i, take-suc (but k rs) i blank m, element i m, ← ej) refl in
-        (omega arith, rw (f .1, z) (stored (take i (but k rs)) i mostRecords (getD (p .records) j blank) blank (omega (arith, length-take i (but k rs))) (omega (arith, fewer))))
+-- a record that is read is there
+pub in-plan : (k c i n : ℕ) → n ≡ c - one (ltb k c) → i < n → i + one (leb k i) < c
+in-plan k c i n e h =
+    elim (decLt i k) [
+      | yes l ↦ rw (lt-leb k i l) (omega arith)
+      | no l ↦ let z : one (ltb k c) ≡ 1 = rw (lt-ltb k c (omega arith)) refl in rw (le-leb k i (omega arith)) (omega arith)
+    ]
 
-    pub copied-all : n ≤ i → _≡_ {A = Plan} (record { count = n; records = records }) (planOf (but k (recordsOf p)))
-    copied-all h =
-        let e : i ≡ length (but k rs) = omega (arith, f .0, en, fewer) in
-        let c : n ≡ length (but k rs) = en ∙ sym fewer in
-        rw (f .1, e, c, take-all (length (but k rs)) (but k rs) (omega arith)) refl
+pub copied-none : {p : Plan} {k n : ℕ} {records : List Record} → length (p .records) ≡ mostRecords → p .count ≤ mostRecords → n ≡ p .count - one (ltb k (p .count)) → records ≡ replicate mostRecords blank → Copied p k n records 0
+copied-none long few e er = record { long = long; few = few; room = rw er (length-replicate mostRecords blank); many = e; within = omega arith; so-far = er }
+
+module _ {p : Plan} {k n : ℕ} {records : List Record} {i : ℕ} (f : Copied p k n records i) where
+  abbrev left : List Record
+  left = but k (recordsOf p)
+
+  many-left : length (but k (recordsOf p)) ≡ n
+  many-left = fewer p k (f .long) (f .few) ∙ sym (f .many)
+
+  pub copied-more : i < n → {j : ℕ} → j ≡ i + one (leb k i) → Copied p k n (set records i (getD (p .records) j blank)) (i + 1)
+  copied-more l {j} ej =
+      let m : i < length left = omega (arith, many-left) in
+      let z : take (i + 1) left ≡ take i left ++ (getD (p .records) j blank ∷ []) = rw (add-one i, take-suc left i blank m, element p k (f .long) (f .few) i m, ← ej) refl in
+      record {
+        long = f .long;
+        few = f .few;
+        room = simp length-set (f .room);
+        many = f .many;
+        within = omega arith;
+        so-far = rw (f .so-far, z) (stored (take i left) i mostRecords (getD (p .records) j blank) blank (omega (arith, length-take i left)) (omega (arith, f .many, f .few)));
+      }
+
+  pub copied-all : n ≤ i → _≡_ {A = Plan} (record { count = n; records = records }) (planOf (but k (recordsOf p)))
+  copied-all h =
+      let e : i ≡ length left = omega (arith, f .within, many-left) in
+      rw (f .so-far, e, ← many-left, take-all (length left) left (omega arith)) refl

@@ -4,3 +4,4 @@ pub mod Accepts
 pub mod Covering
 pub mod Sparing
 pub mod Copying
+pub mod Going

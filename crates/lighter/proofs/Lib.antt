@@ -5,3 +5,4 @@ pub mod Covering
 pub mod Sparing
 pub mod Copying
 pub mod Going
+pub mod Answering

@@ -1,7 +1,8 @@
 -- The contract of each open function permits a single reply for each argument, buffers included. A contract that is an
--- equation does so by one law; that of the plan test does by `one-answer`. Assumes nothing.
+-- equation does so by one law; that of the plan test does by `one-answer`, that of the lighter plan by `one-lighter`. Assumes nothing.
 use mathlib.Core.Path.{_≡_, sym, _∙_}
 use Rattle.vee.proofs.Single.{one-answer}
+use Rattle.lighter.proofs.Theorems.{one-lighter}
 use Rattle.contracts.specs.Contracts.{Single, SingleReplies}
 
 -- an equation permits one
@@ -44,6 +45,7 @@ single-replies =
       worst-of = λ p. equal _;
       day-of = λ p projection out. (equal _, equal _);
       close = λ p. equal _;
+      lighter-of = λ p r r′. one-lighter;
       blank = equal _;
       plan-line = λ number place. equal _;
       numbers-line = λ a b c d. equal _;

@@ -36,6 +36,8 @@ use Rattle.worst.specs.WorstMinute.{worstOf, dayOf, dayWritten}
 use Rattle.worst.specs.declared.Worst.{Worst}
 use Rattle.worst.specs.declared.Day.{Day}
 use Rattle.closure.specs.Closing.{closeOf}
+use Rattle.lighter.specs.Lighter.{LighterOf}
+use Rattle.lighter.specs.declared.Lighter.{Lighter}
 use Rattle.replies.specs.declared.Place.{Place}
 use Rattle.lines.specs.Text.{lineOf}
 use Rattle.text.specs.Lines.{planLine, numbersLine, eventLine, replyLine, testLine, boardLine, pointLine, tailLine, endLine}
@@ -94,6 +96,8 @@ pub record SingleReplies : Type 0 where
       → SingleBoth (λ (r : Day). r ≡ dayOf p projection out) (λ (held : List ℕ). held ≡ dayWritten p projection out)
   -- closure
   pub close : (p : Plan) → Single (λ (r : Reading). r ≡ closeOf p)
+  -- lighter
+  pub lighter-of : (p : Plan) → Single (λ (r : Lighter). LighterOf p r)
   -- text
   pub blank : Single (λ (r : Line). r ≡ lineOf [])
   pub plan-line : (number place : ℕ) → Single (λ (r : Line). r ≡ planLine number place)

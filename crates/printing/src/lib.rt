@@ -146,7 +146,15 @@ fn answered(full: bool, before: Went, chunk: &[u8], n: usize, lines: &mut [u8]) 
     requires { ⌜ n ≤ length (now chunk) ⌝ }
     ensures { λ w. ⌜ w .at ≡ n ⌝ }
 {
-    let passed = records(full, before.sheet, chunk, before.past, n / RECORD, lines, before.out);
+    let passed = records(
+        full,
+        before.sheet,
+        chunk,
+        before.past,
+        n / RECORD,
+        lines,
+        before.out,
+    );
     let out = flush(lines, passed.out);
     let sheet = passed.sheet;
     Went {

@@ -1,11 +1,13 @@
 // One program for the desk: `desk VERB [WORDS]`, standard input to standard output. Each verb is a file here that reads, calls
 // one proved function and prints proved lines; what reads and writes no contract can say. Memory does not grow with the input.
+mod calendar_verb;
 mod close_verb;
 mod day_verb;
 mod import_verb;
 mod input;
 mod made;
 mod say;
+mod sheet_in;
 mod test_verb;
 mod worst_verb;
 
@@ -30,6 +32,8 @@ fn main() {
         Asked::Day(number) => day_verb::run(number),
         Asked::Import => import_verb::run(),
         Asked::Close => close_verb::run(),
+        Asked::Lighter => close_verb::run(),
+        Asked::Calendar => calendar_verb::run(),
         Asked::Nothing => {
             io::write_all(libc::STDERR_FILENO, &USAGE);
         }

@@ -1,0 +1,8 @@
+-- The proofs of the calendar. Other crates cite the ones that are `pub`.
+mod ACase
+pub mod Lengths
+pub mod Going
+pub mod Writing
+pub mod Lined
+mod Starts
+pub mod Theorems

@@ -5,6 +5,7 @@ mod close_verb;
 mod day_verb;
 mod import_verb;
 mod input;
+mod lighter_verb;
 mod made;
 mod say;
 mod sheet_in;
@@ -13,16 +14,22 @@ mod worst_verb;
 
 use asks::Asked;
 
-// What is said of a verb or words that are none.
-const USAGE: [u8; 55] = *b"usage: desk test | worst | day NUMBER | import | close\n";
+// The verbs and their words.
+const USAGE: [u8; 103] = *b"usage: desk test | worst | day NUMBER | import | close | lighter | calendar YEAR MONTH DAY HOUR MINUTE
+";
 
-// The words behind the program's name, two at most: a verb, and what it is asked.
+// The first two words behind the program's name: a verb, and what it is asked.
 fn asked() -> Asked {
     let mut verb = io::buffer();
     let n = os::arg(1, &mut verb);
     let mut word = io::buffer();
     let m = os::arg(2, &mut word);
     asks::ask(os::arg_count(), &verb[..n], &word[..m])
+}
+
+// What is said of a verb or words that are none.
+pub(crate) fn usage() {
+    io::write_all(libc::STDERR_FILENO, &USAGE);
 }
 
 fn main() {
@@ -32,10 +39,8 @@ fn main() {
         Asked::Day(number) => day_verb::run(number),
         Asked::Import => import_verb::run(),
         Asked::Close => close_verb::run(),
-        Asked::Lighter => close_verb::run(),
+        Asked::Lighter => lighter_verb::run(),
         Asked::Calendar => calendar_verb::run(),
-        Asked::Nothing => {
-            io::write_all(libc::STDERR_FILENO, &USAGE);
-        }
+        Asked::Nothing => usage(),
     }
 }

@@ -21,6 +21,7 @@ use Rattle.tables.specs.Steps.{PartOf}
 use Rattle.rows.specs.Sheet.{SheetEdge, SheetReady}
 use Rattle.rows.specs.Filled.{Filled}
 use Rattle.rows.proofs.Lays.{inside}
+use Rattle.projection.specs.Findings.{JudgeReady}
 use Rattle.projection.specs.Judging.{Before, FirstBad}
 use Rattle.projection.specs.Pairs.{Kept, Undercut, FirstPair, no-pair, pair}
 use Rattle.projection.specs.Ways.{Ways, LeastWays, RoundReady, Settled}
@@ -84,6 +85,11 @@ some-cycle false e f = part-cycle (f .verdict)
 part-distances : {b : Part} {s w t : List ℕ} {m n : ℕ} (r : Bool) → not r ≡ false → Filled b s w m n t r → Distances (PartOf b (SheetEdge s w m)) n (at t) × Consistent (PartOf b (SheetEdge s w m)) × Shallow n (at t)
 part-distances true e f = f .verdict
 part-distances false e f = absurd (let z : _≡_ {A = ℕ} 0 1 = cc in omega arith)
+
+-- one that was closed has the distances of a projection that can be judged by them
+pub may-judge : (s w : List ℕ) (m n : ℕ) → SheetReady s w m n → (t : List ℕ) (r : Bool) → not r ≡ false → Filled All s w m n t r → JudgeReady s w m n t
+may-judge s w m n ready t true e f = record { ready = ready; filled = f }
+may-judge s w m n ready t false e f = absurd (let z : _≡_ {A = ℕ} 0 1 = cc in omega arith)
 
 module _ (s w : List ℕ) (m n : ℕ) (ready : SheetReady s w m n) (f : List ℕ) (a : Bool) (ha : not a ≡ false) (fa : Filled All s w m n f a) where
   all : Distances (SheetEdge s w m) n (at f)

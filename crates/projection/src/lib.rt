@@ -2,7 +2,7 @@
 // and then non-negative ones joins, or it is good. An inner room of the plan test: some functions have a `requires`, which
 // every caller is proved to meet.
 ghost use Rattle.rows.specs.Sheet.{SheetEdge, SheetReady};
-ghost use Rattle.projection.specs.Findings.{FoundOf};
+ghost use Rattle.projection.specs.Findings.{FoundOf, JudgeReady};
 use pairs::Pair;
 use pairs::first_pair;
 use rows::SHEET;
@@ -22,6 +22,28 @@ pub enum Finding {
     Pair(u32, u32),
 }
 
+// What is found of the projection of a sheet's records that has these durations, where `all` has its distances.
+pub fn judge_by(
+    all: &[u32; ROOM],
+    durations: &[u64; SIDE],
+    sheet: &[u64; SHEET],
+    m: usize,
+    n: usize,
+    ways: &mut [u32; ROOM],
+) -> Finding
+    requires { ⌜ JudgeReady (now sheet) (now durations) m n (now all) ⌝ }
+    ensures { λ r. ⌜ FoundOf (SheetEdge (now (sheet .entry)) (now (durations .entry)) m) r ⌝ }
+{
+    if !fill(&mut *ways, Part::Rising, sheet, durations, n, m) {
+        return Finding::Cycle;
+    }
+    settle(&mut *ways, sheet, durations, n, m);
+    match first_pair(all, &*ways, n) {
+        Pair::None => Finding::Good,
+        Pair::At(x, y) => Finding::Pair(x, y),
+    }
+}
+
 // What is found of the projection of a sheet's records that has these durations.
 pub fn judge(
     durations: &[u64; SIDE],
@@ -37,12 +59,5 @@ pub fn judge(
     if !fill(&mut *all, Part::All, sheet, durations, n, m) {
         return Finding::Cycle;
     }
-    if !fill(&mut *ways, Part::Rising, sheet, durations, n, m) {
-        return Finding::Cycle;
-    }
-    settle(&mut *ways, sheet, durations, n, m);
-    match first_pair(&*all, &*ways, n) {
-        Pair::None => Finding::Good,
-        Pair::At(x, y) => Finding::Pair(x, y),
-    }
+    judge_by(&*all, durations, sheet, m, n, &mut *ways)
 }

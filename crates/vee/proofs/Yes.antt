@@ -96,16 +96,16 @@ module _ (N : Net) where
   pub record Agree (ω ν : ℕ → ℕ) : Type 0 where
     pub same : {A x y C : ℕ} → N .Link A x y C → ω C ≡ ν C
 
-  turned : {ω ν : ℕ → ℕ} → Agree ω ν → Agree ν ω
+  pub turned : {ω ν : ℕ → ℕ} → Agree ω ν → Agree ν ω
   turned a = record { same = λ l. sym (a .same l) }
 
-  carry : {ω ν : ℕ → ℕ} → Agree ω ν → (X Y u d : ℕ) → Edge N ω X Y u d → Edge N ν X Y u d
+  pub carry : {ω ν : ℕ → ℕ} → Agree ω ν → (X Y u d : ℕ) → Edge N ω X Y u d → Edge N ν X Y u d
   carry a X Y u d (ordinary o) = ordinary o
   carry {ω} {ν} a X Y u d (there {A} {C = C} l) = subst (λ (t : ℕ). Edge N ν A C t 0) (sym (a .same l)) (there l)
   carry {ω} {ν} a X Y u d (back {A} {C = C} l) = subst (λ (t : ℕ). Edge N ν C A 0 t) (sym (a .same l)) (back l)
   carry {ω} {ν} a X Y u d (wait {A} {B = B} {w = w} l h) = subst (λ (t : ℕ). Edge N ν B A 0 (min w t)) (sym (a .same l)) (wait l h)
 
-  agree-good : {ω ν : ℕ → ℕ} → Agree ω ν → Good (Edge N ω) → Good (Edge N ν)
+  pub agree-good : {ω ν : ℕ → ℕ} → Agree ω ν → Good (Edge N ω) → Good (Edge N ν)
   agree-good a = same-good (carry a) (carry (turned a))
 
 -- durations after a link's has been set

@@ -1,5 +1,5 @@
--- Single steps, computed by the rules: the aim, the event of a board, the finishing minute of a run, a refusal, a projection by
--- its number. Assumes nothing.
+-- Single steps, computed by the rules: the aim, the event of a board, the finishing minute of a run, a refusal. Assumes
+-- nothing.
 use mathlib.Core.Path.{_≡_, refl}
 use mathlib.Core.List.{List, [], _∷_}
 use Prim.Native.Nat.{ℕ}
@@ -21,7 +21,6 @@ use Rattle.vee.specs.TestOf.{testOf}
 use Rattle.promise.specs.Plays.{Event, leastOf, setOf}
 use Rattle.worst.specs.ProjectionRuns.{aim, aimed, nextEvent, runFrom, eventsFrom}
 use Rattle.worst.specs.WorstMinute.{finishing, Finish, worse, refusedOf}
-use Rattle.worst.specs.Inside.{chosen}
 
 -- an event: the minute, the foreman's point, the watched ones
 abbrev pub at : ℕ → ℕ → ℕ → Event
@@ -104,10 +103,3 @@ haul-finishes = refl
 wide-refused : refusedOf (planOf (aPoint 0 ∷ aPoint 1 ∷ aLink 0 1 4097 1 ∷ [])) ≡ refusal 13 0
 unfolding refusedOf testOf spans many howMany some firstThat checkWith firstBadWith numberForWith lastKind
 wide-refused = refl
-
--- ---- a projection by its number
-
--- two links, of 2 or 3 minutes and of 5 to 7: number 4 has 3 and 6
-number-four : chosen (record { over = 0; least = 2; most = 3 } ∷ record { over = 1; least = 5; most = 7 } ∷ []) (0 ∷ 0 ∷ []) 4 ≡ 3 ∷ 6 ∷ []
-unfolding chosen many
-number-four = refl

@@ -25,7 +25,7 @@ use Rattle.worst.specs.Promises.{projectionAt}
 use Rattle.worst.specs.Coded.{RunReady, RunAsks, RanOf, ChooseAsks, ChosenAs, AllReady, WorstAsks, worseFound, FoundOf}
 use Rattle.worst.specs.declared.run.Ran.{Ran}
 use Rattle.worst.specs.declared.projections.Found.{Found}
-use Rattle.worst.proofs.Decoding.{projection-chosen}
+use Rattle.choices.proofs.Decoding.{projection-chosen}
 use Rattle.worst.proofs.Going.{few-of-run}
 use Rattle.worst.proofs.Stands.{projection-in-bounds}
 

@@ -23,7 +23,7 @@ use Rattle.promise.specs.Plays as plays
 use Rattle.steps.specs.Rows.{SheetOf}
 use Rattle.worst.specs.ProjectionRuns.{eventsOfRun}
 use Rattle.worst.specs.WorstMinute.{finishing, bytesOfAll, worstOfAll, day}
-use Rattle.worst.specs.Inside.{chosen}
+pub use Rattle.choices.specs.Choices.{ChooseAsks, ChosenAs}
 use Rattle.worst.specs.declared.Day.{Day}
 use Rattle.worst.specs.declared.run.Ran.{Ran}
 use Rattle.worst.specs.declared.projections.Found.{Found}
@@ -91,19 +91,6 @@ pub record DayAs (s : List ℕ) (m n : ℕ) (w out out′ : List ℕ) (d : Day) 
   pub written : (p : Plan) → RunReady p s m n w → out′ ≡ writtenFor (eventsOfRun p w) out
 
 -- ---- the projections
-
--- the rows before row past have the links, so many projections in all, and number i is one of them
-pub record ChooseAsks (s : List ℕ) (past k total i : ℕ) : Type 0 where
-  pub m : ℕ
-  pub n : ℕ
-  pub walk : WalkReady s unset m n past k 0
-  pub counted : total ≡ many (spansIn s past k)
-  pub one : i < total
-
--- its durations, none of which is too long
-pub record ChosenAs (s : List ℕ) (past k i : ℕ) (w : List ℕ) : Type 0 where
-  pub is : w ≡ chosen (spansIn s past k) unset i
-  pub small : (C : ℕ) → by w C ≤ farthest
 
 -- the sheet has the plan p of n points and some links, which passes, with so many projections
 pub record AllReady (p : Plan) (s : List ℕ) (m n k total : ℕ) : Type 0 where

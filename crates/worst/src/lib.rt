@@ -3,12 +3,12 @@
 ghost use mathlib.Core.Path.{_≡_};
 ghost use Rattle.worst.specs.WorstMinute.{worstOf, dayOf, dayWritten};
 ghost use Rattle.worst.specs.Coded.{refusedBy, manyBy};
+use choices::chosen;
 use plan::ACCEPTED;
 use plan::Plan;
 use plan::Refusal;
 use plan::links_of;
 use plan::points_of;
-use projections::chosen;
 use projections::worst_run;
 use rows::SHEET;
 use rows::lay_out;

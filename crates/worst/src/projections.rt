@@ -1,54 +1,15 @@
 // The projections of a plan laid out in rows, by number, and the worst of their runs.
 ghost use mathlib.Core.Path.{_≡_};
-ghost use Prim.Native.Nat.{_+_, _≤_};
-ghost use Rattle.plan.specs.Limits.{farthest};
-ghost use Rattle.worst.specs.Coded.{ChooseAsks, ChosenAs, WorstAsks, worseFound, FoundOf};
+ghost use Rattle.worst.specs.Coded.{WorstAsks, worseFound, FoundOf};
 use crate::run::LOG;
 use crate::run::run;
+use choices::chosen;
 use rows::SHEET;
-use rows::index;
-use rows::row_at;
-use tables::SIDE;
 
 // A finishing minute, and the projection that has it.
 pub(crate) struct Found {
     pub minute: u32,
     pub projection: u32,
-}
-
-// The duration of a link that is so far past its least, and not past its most.
-fn lasting(least: u64, most: u64, digit: u64) -> u64
-    requires { ⌜ (least + digit ≤ most) × (most ≤ farthest) ⌝ }
-    ensures { λ p. ⌜ p ≡ least + digit ⌝ }
-{
-    let p = least + digit;
-    if p < most { p } else { most }
-}
-
-// The durations of projection `number` of the `many` that the links of the `links` rows before row `past` have: the number's
-// digits, the first link's first, say how far each duration is past its least.
-pub(crate) fn chosen(
-    sheet: &[u64; SHEET],
-    past: usize,
-    links: usize,
-    many: u32,
-    number: u32,
-) -> [u64; SIDE]
-    requires { ⌜ ChooseAsks (now sheet) past links many number ⌝ }
-    ensures { λ w. ⌜ ChosenAs (now (sheet .entry)) past links number w ⌝ }
-{
-    let mut w = [0u64; SIDE];
-    let mut rest = many as u64;
-    let mut left = number as u64;
-    let mut ahead = links;
-    while 0 < ahead {
-        let row = row_at(sheet, past - ahead);
-        rest = rest / (row.second + 1 - row.first);
-        w[index(row.over)] = lasting(row.first, row.second, left / rest);
-        left = left % rest;
-        ahead -= 1;
-    }
-    w
 }
 
 // The worse of what is found so far and a minute t of projection i: of equal minutes the first counts.

@@ -9,7 +9,7 @@ use lib.ListN.{length, getD, set, List·getD-append}
 use lib.Seq.{getD-append-add}
 use Rattle.vee.specs.PlanTest.{Span, spread, projections, many}
 use Rattle.vee.proofs.Walks.{as-many}
-use Rattle.worst.specs.Inside.{chosen}
+use Rattle.choices.specs.Choices.{chosen}
 
 -- There are as many projections as the product of the durations.
 pub numbered : (ls : List Span) (u : List ℕ) → length (projections ls u) ≡ many ls

@@ -1,11 +1,11 @@
--- `worst::projections::chosen` meets its contract. Assumes nothing.
+-- `choices::chosen` meets its contract. Assumes nothing.
 use mathlib.Core.Path.{refl}
 use Prim.Native.Nat.{ℕ, _-_}
-use Rattle.worst.proofs.Choosing.{Choosing, choosing-start, row-there, link-there, next-some, next-fits, choosing-turn, choosing-end}
+use Rattle.choices.proofs.Choosing.{Choosing, choosing-start, row-there, link-there, next-some, next-fits, choosing-turn, choosing-end}
 use borrow.Author.Needs.{needs}
 use native.Mathlib.Omega.{arith}
-use Rattle.worst.proofs.projections.chosen.Statement.{statement}
-use Rattle.worst.proofs.projections.chosen.Tie as tie
+use Rattle.choices.proofs.chosen.Statement.{statement}
+use Rattle.choices.proofs.chosen.Tie as tie
 
 abbrev Inv-loop : tie.InvT-loop
 Inv-loop sheet past links many number w₀ rest₀ left₀ ahead₀ w rest left ahead = Choosing sheet past links many number w rest left ahead

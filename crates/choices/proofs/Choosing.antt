@@ -15,9 +15,8 @@ use Rattle.vee.specs.PlanTest.{many, unset, mostProjections}
 use Rattle.vee.specs.Walked.{spanAt, spansIn, WalkReady}
 use Rattle.vee.proofs.Walks.{unfolded}
 use Rattle.vee.proofs.Testing.{nothing-lasts}
-use Rattle.worst.specs.Inside.{chosen}
-use Rattle.worst.specs.Coded.{ChooseAsks, ChosenAs}
-use Rattle.worst.proofs.Decoding.{some-left}
+use Rattle.choices.specs.Choices.{chosen, ChooseAsks, ChosenAs}
+use Rattle.choices.proofs.Decoding.{some-left}
 
 -- the links ahead choose what is left of the number, out of as many projections as they have
 pub record Choosing (s : List ℕ) (past links total i : ℕ) (w : List ℕ) (rest left ahead : ℕ) : Type 0 where
@@ -131,4 +130,4 @@ module _ {s : List ℕ} {past links total i : ℕ} {w : List ℕ} {rest left ahe
 
   pub choosing-end : ahead ≡ 0 → ChosenAs s past links i w
   unfolding spansIn chosen
-  choosing-end e = record { is = rw e at (c .same); small = c .small }
+  choosing-end e = record { is = rw e at (c .same); small = c .small; wide = c .wide }

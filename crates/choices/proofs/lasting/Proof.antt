@@ -1,7 +1,7 @@
--- `worst::projections::lasting` meets its contract. Assumes nothing.
+-- `choices::lasting` meets its contract. Assumes nothing.
 use native.Mathlib.Omega.{arith}
-use Rattle.worst.proofs.projections.lasting.Statement.{statement}
-use Rattle.worst.proofs.projections.lasting.Tie as tie
+use Rattle.choices.proofs.lasting.Statement.{statement}
+use Rattle.choices.proofs.lasting.Tie as tie
 
 add-p : tie.Need-add-p
 add-p c = omega (arith, c .pre)

@@ -1,0 +1,8 @@
+-- The modules of proofs that belong to no one function.
+pub mod Skips
+pub mod Accepts
+pub mod Covering
+pub mod Sparing
+pub mod Copying
+pub mod Going
+pub mod Answering

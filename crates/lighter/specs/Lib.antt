@@ -1,0 +1,3 @@
+-- What a reader has to believe of the lighter plan: `Lighter`. `Inside` is what private functions' contracts cite. No proofs are here.
+pub mod Lighter
+pub mod Inside

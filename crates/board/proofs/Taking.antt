@@ -1,6 +1,6 @@
 -- Taking an event: the tests of its set on a plan's links say what the rules say, and so do those of its point on the
 -- windows; then the number of the whole event, and the board after it. Assumes nothing.
-use mathlib.Core.Path.{_≡_, refl, sym, _∙_}
+use mathlib.Core.Path.{_≡_, refl, sym, ap, _∙_}
 use mathlib.Core.Bool.{Bool, true, false, not, cond, _&&_, _||_, true≢false}
 use mathlib.Core.List.{List, _∷_}
 use Prim.Native.Nat.{ℕ, zero, suc, _+_, _-_, _≤_, _<_, min}
@@ -15,6 +15,7 @@ use Rattle.plan.specs.APlan.{points, watched, linkTo}
 use Rattle.plan.specs.PlanFile.{wordAt}
 use Rattle.records.specs.declared.Record.{Record}
 use Rattle.board.specs.Boards.{isDone, running}
+use Rattle.board.specs.Calls.{nextCall}
 use Rattle.board.specs.Windows.{isOpen, low, someOpen}
 use Rattle.board.specs.Stuck.{finished, stuck, latest}
 use Rattle.board.specs.Events.{eventMinute, eventPoint, eventSet, noPoint, wellFormed, endsRunning, inTime, eventNumber, boardAfter, taken}
@@ -120,6 +121,7 @@ module _ (rs : List Record) (b : Board) (s : List ℕ) where
   unfolding takenNext
   next-refused h = rw (ne-eqb (eventNumber rs b s) 0 h)
 
-  pub next-taken : eventNumber rs b s ≡ 0 → taken 0 0 (afterEvent b (eventIn s)) ≡ takenNext rs b s
+  -- whatever the code has for the next number
+  pub next-taken : eventNumber rs b s ≡ 0 → (n : ℕ) → n ≡ nextCall b → taken 0 0 (afterEvent b (eventIn s) n) ≡ takenNext rs b s
   unfolding takenNext boardAfter
-  next-taken h = rw (eq-eqb (eventNumber rs b s) 0 h)
+  next-taken h n e = ap (λ (k : ℕ). taken 0 0 (afterEvent b (eventIn s) k)) e ∙ rw (eq-eqb (eventNumber rs b s) 0 h)

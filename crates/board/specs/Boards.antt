@@ -1,5 +1,6 @@
--- Document 01, "Board, windows, replies", first half: what a board holds, and when it is sound. What each clause asks of the
--- clock, the done set and the minutes is said in `History` of `history`. Assumes nothing.
+-- Document 01, "Board, windows, replies", first half: what a board holds, and when it is sound; the last two clauses are those
+-- of document 02, §7. What each clause asks of the clock, the done set and the minutes is said in `History` of `history`, what
+-- it asks of the events' numbers in `Calls`. Assumes nothing.
 use mathlib.Core.Bool.{Bool, _&&_}
 use mathlib.Core.List.{List}
 use Prim.Native.Nat.{ℕ, _*_}
@@ -13,11 +14,12 @@ use Rattle.history.specs.History as history
 use Rattle.history.specs.History.{minuteIn, runs}
 pub use Rattle.history.specs.History.{shortest, longest}
 unfoldable pub use Rattle.history.specs.History.{each, largest}
+use Rattle.board.specs.Calls.{earlier, wellNumbered}
 use Rattle.board.specs.declared.Board.{Board}
 
 -- fresh: all zero
 abbrev pub fresh : Board
-fresh = record { clock = 0; done = 0; minutes = replicate mostPoints 0 }
+fresh = record { clock = 0; done = 0; minutes = replicate mostPoints 0; calls = replicate mostPoints 0 }
 
 abbrev pub isDone : Board → ℕ → Bool
 isDone b p = member (b .done) p
@@ -44,4 +46,6 @@ sound rs b =
     && (every (fits b) (from 0 mostPoints)
     && (eqb (b .clock) (largest (b .minutes) (membersOf (b .done)))
     && (each (inBounds b) rs
-    && leb (b .clock) (farthest * countOf (b .done)))))
+    && (leb (b .clock) (farthest * countOf (b .done))
+    && (each (earlier b) rs
+    && wellNumbered rs b)))))

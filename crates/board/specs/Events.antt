@@ -18,6 +18,7 @@ use Rattle.links.specs.Ending as links
 use Rattle.events.specs.Fields as events
 pub use Rattle.events.specs.Fields.{eventMinute, eventPoint, noPoint, eventSet}
 use Rattle.board.specs.Boards.{sound, each}
+use Rattle.board.specs.Calls.{nextCall}
 use Rattle.board.specs.Windows.{isOpen, low, someOpen}
 use Rattle.board.specs.Stuck.{finished, stuck, latest}
 use Rattle.board.specs.declared.Board.{Board}
@@ -58,15 +59,17 @@ eventNumber rs b s =
 abbrev pub eventPoints : List ℕ → List ℕ
 eventPoints s = membersOf (eventSet s) ++ (if eqb (eventPoint s) noPoint then [] else (eventPoint s ∷ []))
 
--- some points done at minute t
-unfoldable pub markAll : ℕ → List ℕ → Board → Board
-markAll t [] b = b
-markAll t (p ∷ ps) b = markAll t ps (record { clock = b .clock; done = withOf (b .done) p; minutes = set (b .minutes) p t })
+-- some points done at minute t by the event of number n
+unfoldable pub markAll : ℕ → ℕ → List ℕ → Board → Board
+markAll t n [] b = b
+markAll t n (p ∷ ps) b =
+    markAll t n ps (record { clock = b .clock; done = withOf (b .done) p; minutes = set (b .minutes) p t; calls = set (b .calls) p n })
 
--- the board after the event: all its points done at its minute, which becomes the clock
+-- the board after the event: all its points done at its minute, which becomes the clock, by the event of the next number
 unfoldable pub boardAfter : Board → List ℕ → Board
 boardAfter b s =
-    markAll (eventMinute s) (eventPoints s) (record { clock = eventMinute s; done = b .done; minutes = b .minutes })
+    markAll (eventMinute s) (nextCall b) (eventPoints s)
+    (record { clock = eventMinute s; done = b .done; minutes = b .minutes; calls = b .calls })
 
 abbrev pub taken : ℕ → ℕ → Board → Taken
 taken n i b = record { number = n; place = i; board = b }

@@ -31,9 +31,9 @@ takenNext rs b s =
 
 -- the board at the minute t
 abbrev pub clockAt : ℕ → Board → Board
-clockAt t b = record { clock = t; done = b .done; minutes = b .minutes }
+clockAt t b = record { clock = t; done = b .done; minutes = b .minutes; calls = b .calls }
 
--- the board after an event
-abbrev pub afterEvent : Board → Event → Board
-afterEvent b e =
-    markAll (e .minute) (membersOf (e .set) ++ (if eqb (e .point) noPoint then [] else (e .point ∷ []))) (clockAt (e .minute) b)
+-- the board after an event of number n
+abbrev pub afterEvent : Board → Event → ℕ → Board
+afterEvent b e n =
+    markAll (e .minute) n (membersOf (e .set) ++ (if eqb (e .point) noPoint then [] else (e .point ∷ []))) (clockAt (e .minute) b)

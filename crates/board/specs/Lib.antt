@@ -1,4 +1,5 @@
 -- What a reader has to believe of boards, in the order of document 01. No proofs are here.
+pub mod Calls
 pub mod Boards
 pub mod Windows
 pub mod Stuck

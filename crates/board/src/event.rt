@@ -11,10 +11,11 @@ ghost use Rattle.board.specs.InsideReplies.{Ready};
 use crate::Board;
 use crate::Taken;
 use crate::UNSOUND;
-use crate::sound::is_sound;
+use crate::sound::is_sound_with;
 use events::Event;
 use events::NO_POINT;
 use events::event_in;
+use history::last_done;
 use links::Links;
 use links::links_of;
 use plan::ACCEPTED;
@@ -25,17 +26,19 @@ use points::first;
 use points::with;
 use points::without;
 
-// The points of a set done at the minute t, which is the clock.
-fn mark_set(board: Board, set: u32, t: u32) -> Board
-    ensures { λ b. ⌜ b ≡ markAll t (membersOf set) (clockAt t board) ⌝ }
+// The points of a set done at the minute t, which is the clock, by the event of number n.
+fn mark_set(board: Board, set: u32, t: u32, n: u32) -> Board
+    ensures { λ b. ⌜ b ≡ markAll t n (membersOf set) (clockAt t board) ⌝ }
 {
     let mut minutes = board.minutes;
+    let mut calls = board.calls;
     let mut done = board.done;
     let mut rest = set;
     while rest != 0 {
         let p = first(rest);
         let place = p as usize;
         minutes[place] = t;
+        calls[place] = n;
         done = with(done, p);
         rest = without(rest, p);
     }
@@ -43,35 +46,39 @@ fn mark_set(board: Board, set: u32, t: u32) -> Board
         clock: t,
         done: done,
         minutes: minutes,
+        calls: calls,
     }
 }
 
-// A point done at the minute t. A point past the last place changes nothing.
-fn mark(board: Board, p: u8, t: u32) -> Board
-    ensures { λ b. ⌜ b ≡ markAll t (p ∷ []) board ⌝ }
+// A point done at the minute t by the event of number n. A point past the last place changes nothing.
+fn mark(board: Board, p: u8, t: u32, n: u32) -> Board
+    ensures { λ b. ⌜ b ≡ markAll t n (p ∷ []) board ⌝ }
 {
     if p < MOST {
         let mut minutes = board.minutes;
+        let mut calls = board.calls;
         let place = p as usize;
         minutes[place] = t;
+        calls[place] = n;
         return Board {
             clock: board.clock,
             done: with(board.done, p),
             minutes: minutes,
+            calls: calls,
         };
     }
     board
 }
 
-// The board after an event.
-pub fn after(board: Board, e: Event) -> Board
-    ensures { λ b. ⌜ b ≡ afterEvent board e ⌝ }
+// The board after an event of number n.
+pub fn after(board: Board, e: Event, n: u32) -> Board
+    ensures { λ b. ⌜ b ≡ afterEvent board e n ⌝ }
 {
-    let next = mark_set(board, e.set, e.minute);
+    let next = mark_set(board, e.set, e.minute, n);
     if e.point == NO_POINT {
         next
     } else {
-        mark(next, e.point, e.minute)
+        mark(next, e.point, e.minute, n)
     }
 }
 
@@ -104,7 +111,9 @@ pub(crate) fn take_next(plan: Plan, board: Board, links: Links, event: &[u8]) ->
         return answer(number, 0, board);
     }
     let e = event_in(event);
-    answer(ACCEPTED, 0, after(board, e))
+    let calls = board.calls;
+    let n = last_done(board.done, calls) + 1;
+    answer(ACCEPTED, 0, after(board, e, n))
 }
 
 impl Board {
@@ -116,10 +125,10 @@ impl Board {
         if found.number != ACCEPTED {
             return answer(found.number, found.place, self);
         }
-        if !is_sound(plan, self) {
+        let links = links_of(plan);
+        if !is_sound_with(plan, self, links) {
             return answer(UNSOUND, 0, self);
         }
-        let links = links_of(plan);
         take_next(plan, self, links, event)
     }
 }

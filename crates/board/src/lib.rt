@@ -1,6 +1,7 @@
 // The board: soundness and events. Document 01, "Board, windows, replies" and "Events"; specs/ states them in that order.
 // `fresh`, `minute_of`, `is_sound`, `is_finished`, `take` and `take_all` take any plan, any board and any bytes and answer;
-// `windows_of` and `is_stuck` serve the crate `replies` and assume what their contracts ask; `after` serves `worst`.
+// `windows_of`, `is_stuck` and `is_sound_with` serve the crates `replies` and `verdict` and assume what their contracts ask;
+// `after` serves `worst`.
 
 ghost use mathlib.Core.Path.{_≡_};
 ghost use Rattle.board.specs.Boards.{fresh};
@@ -16,6 +17,7 @@ pub use links::NOT_IN_TIME;
 pub use links::NOT_RUNNING;
 pub use links::RUN_OUT;
 pub use sound::is_sound;
+pub use sound::is_sound_with;
 pub use sound::minute_of;
 pub use standing::is_finished;
 pub use standing::is_stuck;
@@ -31,11 +33,13 @@ pub use windows::TOO_LATE;
 // The reply numbers 20 to 30; 24 to 27 are those of `links`, the others from 21 on those of `windows`.
 pub const UNSOUND: u32 = 20;
 
-// The clock, the set of done points, and a minute for each point. Points that are not done hold 0.
+// The clock, the set of done points, a minute for each point, and the number of the event that did it, from 1. Points that
+// are not done hold 0.
 pub struct Board {
     pub clock: u32,
     pub done: u32,
     pub minutes: [u32; ROOM],
+    pub calls: [u32; ROOM],
 }
 
 // A place for each point.
@@ -56,5 +60,6 @@ pub fn fresh() -> Board
         clock: 0,
         done: 0,
         minutes: [0u32; ROOM],
+        calls: [0u32; ROOM],
     }
 }

@@ -12,7 +12,7 @@ use crate::Taken;
 use crate::UNSOUND;
 use crate::event::answer;
 use crate::event::take_next;
-use crate::sound::is_sound;
+use crate::sound::is_sound_with;
 use events::fewer;
 use events::put_three;
 use links::Links;
@@ -60,10 +60,10 @@ impl Board {
         if found.number != ACCEPTED {
             return answer(found.number, found.place, self);
         }
-        if !is_sound(plan, self) {
+        let links = links_of(plan);
+        if !is_sound_with(plan, self, links) {
             return answer(UNSOUND, 0, self);
         }
-        let links = links_of(plan);
         let n = fewer(events.len() / RECORD_BYTES, room.len() / SAID);
         answer(ACCEPTED, 0, take_each(plan, self, links, events, n, room))
     }

@@ -3,7 +3,7 @@
 use mathlib.Core.Bool.{Bool, true, false, not, _&&_, _||_}
 use mathlib.Core.List.{List, [], _∷_}
 use Prim.Native.Nat.{ℕ, _+_, max}
-use lib.Dec.{eqb, leb}
+use lib.Dec.{eqb, ltb, leb}
 use lib.ListN.{getD}
 use Rattle.points.specs.Sets.{member}
 use Rattle.plan.specs.APlan.{link, is, gapOf}
@@ -56,3 +56,10 @@ notLateFrom done t ended a l = not (runs done l) || (member ended (l .b) || leb 
 
 abbrev pub notLate : ℕ → List ℕ → ℕ → ℕ → Record → Bool
 notLate done minutes t ended l = notLateFrom done t ended (minuteIn minutes (l .a)) l
+
+-- document 02, §7: where A and C are both done, A is in an earlier event than C; a and c are the numbers of their events
+abbrev pub earlierFrom : ℕ → ℕ → ℕ → Record → Bool
+earlierFrom done a c l = not (is link l) || (not (member done (l .a) && member done (l .b)) || ltb a c)
+
+abbrev pub earlier : ℕ → List ℕ → Record → Bool
+earlier done calls l = earlierFrom done (minuteIn calls (l .a)) (minuteIn calls (l .b)) l

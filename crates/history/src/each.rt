@@ -2,7 +2,7 @@
 // of the record's own two points, a and c: nothing of the plan or of the minutes is passed on.
 ghost use mathlib.Core.Path.{_≡_};
 ghost use Rattle.plan.specs.APlan.{recordsOf};
-ghost use Rattle.history.specs.History.{runs, inBoundsFrom, notLateFrom, each};
+ghost use Rattle.history.specs.History.{runs, inBoundsFrom, notLateFrom, earlierFrom, each};
 ghost use Rattle.history.specs.Inside.{askedFrom, asked};
 use crate::ROOM;
 use crate::minute_at;
@@ -15,11 +15,13 @@ use plan::split;
 use points::has;
 
 // A done link is in its bounds and a running one has not run out; no link is running; no running link but those of a set
-// has run out before a minute.
+// has run out before a minute; a done link's start is in an earlier event than its end, where the numbers of the events stand
+// in place of the minutes.
 pub enum Ask {
     InBounds,
     NotRunning,
     NotLate(u32, u32),
+    Earlier,
 }
 
 // A link is running: A done, C not.
@@ -55,6 +57,13 @@ fn not_late(done: u32, t: u32, set: u32, a: u32, r: Record) -> bool
     !is_running(done, r) | (has(set, r.b) | (wide(t) <= wide(a) + wide(y.up)))
 }
 
+// Where a link's A and C are both done, A is in an earlier event than C.
+fn earlier(done: u32, a: u32, c: u32, r: Record) -> bool
+    ensures { λ t. ⌜ t ≡ earlierFrom done a c r ⌝ }
+{
+    (r.kind != LINK) | (!(has(done, r.a) & has(done, r.b)) | (a < c))
+}
+
 fn is_so(clock: u32, done: u32, a: u32, c: u32, ask: Ask, r: Record) -> bool
     ensures { λ t. ⌜ t ≡ askedFrom clock done a c ask r ⌝ }
 {
@@ -62,6 +71,7 @@ fn is_so(clock: u32, done: u32, a: u32, c: u32, ask: Ask, r: Record) -> bool
         Ask::InBounds => in_bounds(clock, done, a, c, r),
         Ask::NotRunning => !is_running(done, r),
         Ask::NotLate(t, set) => not_late(done, t, set, a, r),
+        Ask::Earlier => earlier(done, a, c, r),
     }
 }
 

@@ -1,5 +1,5 @@
 // Runs of the verdict over a lent list, on the haul of document 01, which is read from standard input: 0 done at 0, 1 at
-// 12, 2 and 3 at 47. A line for each answer: R number place, K, or B place.
+// 12, 2 and 3 at 47, in one event. A line for each answer: R number place, K, or B place.
 use board::Board;
 use bounds::Bound;
 use lent::Judged;
@@ -37,16 +37,22 @@ fn show(judged: Judged) {
     }
 }
 
-// Points 0 to 2 as above, and the minute of point 3.
-fn board(done: u32, last: u32) -> Board {
+// Points 0 to 2 as above, and the minute and the event number of point 3.
+fn board(done: u32, last: u32, call: u32) -> Board {
     let mut minutes = [0u32; 32];
     minutes[1] = 12;
     minutes[2] = 47;
     minutes[3] = last;
+    let mut calls = [0u32; 32];
+    calls[0] = 1;
+    calls[1] = 2;
+    calls[2] = 3;
+    calls[3] = call;
     Board {
         clock: 47,
         done: done,
         minutes: minutes,
+        calls: calls,
     }
 }
 
@@ -70,7 +76,7 @@ fn run(plan: Plan, board: Board, each: Bound, place: usize, other: Bound, count:
 // One bound on the finished board.
 fn one(plan: Plan, from: u8, to: u8, most: i32) {
     let b = bound(from, to, most);
-    run(plan, board(15, 47), b, 0, b, 1);
+    run(plan, board(15, 47, 3), b, 0, b, 1);
 }
 
 // Point 1 comes 12 after point 0: kept at 12, broken at 11; the lowest and the highest bound.
@@ -96,7 +102,7 @@ fn points(plan: Plan) {
 fn lengths(plan: Plan) {
     let kept = bound(0, 1, 12);
     let broken = bound(0, 1, 11);
-    let done = board(15, 47);
+    let done = board(15, 47, 3);
     run(plan, done, broken, 0, broken, 0);
     run(plan, done, kept, 0, kept, 4096);
     run(plan, done, kept, 4095, broken, 4096);
@@ -108,11 +114,11 @@ fn lengths(plan: Plan) {
 fn order(plan: Plan, empty: Plan) {
     let broken = bound(0, 1, 11);
     let unnamed = bound(0, 4, 0);
-    let done = board(15, 47);
-    let unsound = board(7, 47);
+    let done = board(15, 47, 3);
+    let unsound = board(7, 47, 0);
     run(plan, done, broken, 4000, unnamed, 4000);
     run(plan, done, broken, 4000, unnamed, 4096);
-    run(plan, board(7, 0), broken, 0, unnamed, 4096);
+    run(plan, board(7, 0, 0), broken, 0, unnamed, 4096);
     run(plan, unsound, broken, 0, unnamed, 4096);
     run(empty, unsound, broken, 0, unnamed, 4096);
 }

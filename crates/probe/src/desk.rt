@@ -100,6 +100,16 @@ impl Desk {
         desk
     }
 
+    // One event number of the board.
+    fn numbered(self, block: Block) -> Desk {
+        let mut board = self.board;
+        let at = block.p as usize % ROOM;
+        board.calls[at] = block.first;
+        let mut desk = self;
+        desk.board = board;
+        desk
+    }
+
     // The buffer's length, and all its bytes.
     fn filled(self, block: Block, buffer: &mut [u8]) -> Desk {
         fill(buffer, block.p);
@@ -132,7 +142,8 @@ impl Desk {
             5 => self.filled(block, buffer),
             6 => self.put(block, buffer),
             7 => self.repeated(block),
-            0 | 8..=255 => calls::called(self, block, buffer),
+            8 => self.numbered(block),
+            0 | 9..=255 => calls::called(self, block, buffer),
         }
     }
 }

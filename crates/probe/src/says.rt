@@ -81,7 +81,7 @@ pub fn say_places(places: [Place; ROOM]) {
     }
 }
 
-// All minutes of a board, four to a line.
+// All minutes of a board, or all event numbers, four to a line.
 fn say_minutes(minutes: [u32; ROOM]) {
     for k in 0..ROOM / 4 {
         say(
@@ -93,9 +93,11 @@ fn say_minutes(minutes: [u32; ROOM]) {
     }
 }
 
-// A board: its clock and its done set, and its minutes.
+// A board: its clock and its done set, its minutes, and its event numbers.
 pub fn say_board(asked: u32, board: Board) {
     say(asked, board.clock, board.done, 0);
     let minutes = board.minutes;
     say_minutes(minutes);
+    let calls = board.calls;
+    say_minutes(calls);
 }

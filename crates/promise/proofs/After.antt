@@ -85,7 +85,7 @@ pub record Sturdy (p : Plan) (b : Board) : Type 0 where
 
 -- Whether the plan passes or not, every board that accepted events reach is sound.
 pub sturdy : (p : Plan) (ok : checkOf p .number ≡ 0) {b : Board} {k : ℕ} → Run p b k → Sturdy p b
-sturdy p ok start = record { held = record { room = refl; done = omega arith }; good = fresh-sound (recordsOf p) }
+sturdy p ok start = record { held = record { room = refl; done = omega arith; calls = refl }; good = fresh-sound (recordsOf p) }
 sturdy p ok (next s r bytes e) =
     let w = sturdy p ok r in
     record { held = marks p ok (w .held) (w .good) s bytes e .held; good = good-after p ok (w .held) (w .good) s bytes e }

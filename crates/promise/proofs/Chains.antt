@@ -33,7 +33,7 @@ use Rattle.promise.proofs.Boards.{saysOf, in-time-of, running-of, is-ru
 use Rattle.promise.proofs.Executor.{took, set-fits}
 
 -- where an event is taken, the plan is accepted and the board is sound
-taken-by : (p : Plan) (b : Board) (s : List ℕ) → takeOf p b s .number ≡ 0 → (checkOf p .number ≡ 0) × (sound (recordsOf p) b ≡ true)
+pub taken-by : (p : Plan) (b : Board) (s : List ℕ) → takeOf p b s .number ≡ 0 → (checkOf p .number ≡ 0) × (sound (recordsOf p) b ≡ true)
 unfolding takeOf
 taken-by p b s e = go (eqb (checkOf p .number) 0) (sound (recordsOf p) b) refl refl e
   where

@@ -32,7 +32,7 @@ use Rattle.promise.proofs.Executor.{outcome-is}
 use Rattle.promise.proofs.TestYes.{yes-accepted, yes-promised}
 
 -- an event that is not taken hands the same board back
-stays : (p : Plan) (b : Board) (s : List ℕ) → eqb (takeOf p b s .number) 0 ≡ false → takeOf p b s .board ≡ b
+pub stays : (p : Plan) (b : Board) (s : List ℕ) → eqb (takeOf p b s .number) 0 ≡ false → takeOf p b s .board ≡ b
 unfolding takeOf
 stays p b s e =
     go (eqb (checkOf p .number) 0) (sound (recordsOf p) b) (eqb (eventNumber (recordsOf p) b s) 0) e

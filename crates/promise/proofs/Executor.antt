@@ -128,7 +128,7 @@ module _ (p : Plan) (ok : checkOf p .number ≡ 0) where
     pub stands : {b : Board} {k : ℕ} → Run p b k → Stands p b k
     stands start =
         record {
-          held = record { room = refl; done = omega arith };
+          held = record { room = refl; done = omega arith; calls = refl };
           good = fresh-sound (recordsOf p);
           safe = safe-fresh (netOf (recordsOf p)) (saysOf fresh) member-empty;
           done = omega arith;

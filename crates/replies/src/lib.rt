@@ -2,10 +2,8 @@
 // "Board, windows, replies". `reply_of` takes any plan and any board; the functions behind it assume what their contracts ask,
 // an accepted plan and a sound board.
 ghost use mathlib.Core.Path.{_≡_};
-ghost use mathlib.Core.Bool.{true};
 ghost use Rattle.plan.specs.APlan.{recordsOf};
-ghost use Rattle.plan.specs.ReplyNumbers.{checkOf};
-ghost use Rattle.board.specs.Boards.{sound};
+ghost use Rattle.board.specs.InsideReplies.{Ready};
 ghost use Rattle.replies.specs.Replies.{bare, soundReply, replyOf};
 ghost use Rattle.replies.specs.Numbers.{outcomeNumber, callNumber};
 ghost use Rattle.replies.specs.Inside.{stateFrom, offerFrom};
@@ -13,9 +11,10 @@ use board::Board;
 use board::ROOM;
 use board::UNSOUND;
 use board::is_finished;
-use board::is_sound;
+use board::is_sound_with;
 use board::is_stuck;
 use board::windows_of;
+use links::Links;
 use links::links_of;
 use plan::ACCEPTED;
 use plan::Plan;
@@ -119,14 +118,13 @@ fn offer(board: Board, watches: u32, w: Windows, latest: u32) -> Reply
 }
 
 // The reply to a sound board of an accepted plan.
-fn reply_sound(plan: Plan, board: Board) -> Reply
-    requires { ⌜ (checkOf plan .number ≡ 0) × (sound (recordsOf plan) board ≡ true) ⌝ }
+fn reply_sound(plan: Plan, board: Board, links: Links) -> Reply
+    requires { ⌜ Ready plan board links ⌝ }
     ensures { λ r. ⌜ r ≡ soundReply (recordsOf plan) board ⌝ }
 {
     if is_finished(plan, board) {
         return nothing_more(Outcome::Finished);
     }
-    let links = links_of(plan);
     let w = windows_of(plan, board, links);
     if is_stuck(plan, board, w) {
         return nothing_more(Outcome::Stuck);
@@ -146,8 +144,9 @@ pub fn reply_of(plan: Plan, board: Board) -> Reply
     if found.number != ACCEPTED {
         return nothing_more(Outcome::Refused(found.number, found.place));
     }
-    if !is_sound(plan, board) {
+    let links = links_of(plan);
+    if !is_sound_with(plan, board, links) {
         return nothing_more(Outcome::Refused(UNSOUND, 0));
     }
-    reply_sound(plan, board)
+    reply_sound(plan, board, links)
 }

@@ -65,7 +65,7 @@ module _ (rs : List Record) (ok : Accepted rs) (ends : List End) (found : (p : �
 
 -- a board of some minutes, and nothing else: the verdict goes by the minutes alone
 abbrev pub dayOf : List ℕ → Board
-dayOf minutes = record { clock = 0; done = 0; minutes = minutes }
+dayOf minutes = record { clock = 0; done = 0; minutes = minutes; calls = [] }
 
 pub by-minutes : (rs : List Record) (b : Board) (i : ℕ) (xs : List Record) → firstBroken rs (dayOf (b .minutes)) i xs ≡ firstBroken rs b i xs
 unfolding firstBroken

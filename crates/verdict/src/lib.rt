@@ -14,7 +14,7 @@ use board::Board;
 use board::ROOM;
 use board::UNSOUND;
 use board::is_finished;
-use board::is_sound;
+use board::is_sound_with;
 use bounds::bound_kept;
 use history::used;
 use links::Links;
@@ -93,11 +93,19 @@ fn first_broken(plan: Plan, board: Board, links: Links) -> Verdict
 pub fn ended(plan: Plan, board: Board) -> Refusal
     ensures { λ r. ⌜ r ≡ endedOf plan board ⌝ }
 {
+    ended_with(plan, board, links_of(plan))
+}
+
+// The same, where the plan's links are known.
+fn ended_with(plan: Plan, board: Board, links: Links) -> Refusal
+    requires { ⌜ LinksOf (recordsOf plan) links ⌝ }
+    ensures { λ r. ⌜ r ≡ endedOf plan board ⌝ }
+{
     let found = check(plan);
     if found.number != ACCEPTED {
         return found;
     }
-    if !is_sound(plan, board) {
+    if !is_sound_with(plan, board, links) {
         return Refusal {
             number: UNSOUND,
             place: 0,
@@ -120,10 +128,10 @@ pub fn verdict_of(plan: Plan, board: Board) -> Verdict
     ensures verdict { λ v. ⌜ v ≡ verdictOf plan board ⌝ }
     ensures number { λ v. ⌜ verdictNumber v ≡ endedOf plan board .number ⌝ }
 {
-    let found = ended(plan, board);
+    let links = links_of(plan);
+    let found = ended_with(plan, board, links);
     if found.number != ACCEPTED {
         return Verdict::Refused(found.number, found.place);
     }
-    let links = links_of(plan);
     first_broken(plan, board, links)
 }

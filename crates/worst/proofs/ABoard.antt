@@ -11,6 +11,7 @@ use Rattle.plan.specs.APlan.{planOf, howMany, some, firstThat, recordsOf}
 use Rattle.plan.specs.ReplyNumbers.{refusal, checkWith, firstBadWith, numberForWith, lastKind}
 use Rattle.plan.specs.declared.Plan.{Plan}
 use Rattle.points.specs.Sets.{member, membersOf, withOf, belowOf, subsetOf, from, every, passing, firstOr}
+use Rattle.board.specs.Calls.{numbered}
 use Rattle.board.specs.Boards.{sound, each, largest}
 use Rattle.board.specs.Windows.{greatest, least, leastHigh}
 use Rattle.board.specs.Events.{noPoint, takeOf, eventNumber, boardAfter, markAll}
@@ -46,7 +47,7 @@ yard =
 
 -- after 0 at minute 0
 abbrev begun : Board
-begun = record { clock = 0; done = 1; minutes = replicate 32 0 }
+begun = record { clock = 0; done = 1; minutes = replicate 32 0; calls = 1 ∷ replicate 31 0 }
 
 -- 1 and 2 are offered from 5 and 3 from 9: the aim is at 5, and the lowest number of those then
 yard-aim : aim (recordsOf yard) begun ≡ 5
@@ -61,7 +62,7 @@ yard-aimed = refl
 
 -- the haul after 0 at 0 and 1 at 10: the truck is on its way, and the fish can be loaded from 45
 abbrev driving : Board
-driving = record { clock = 10; done = 3; minutes = 0 ∷ 10 ∷ replicate 30 0 }
+driving = record { clock = 10; done = 3; minutes = 0 ∷ 10 ∷ replicate 30 0; calls = 1 ∷ 2 ∷ replicate 30 0 }
 
 -- a drive of 20 minutes ends before the aim, and comes first
 comes-before : nextEvent (recordsOf haul) (set unset 2 20) driving ≡ at 30 noPoint 4
@@ -80,7 +81,8 @@ comes-after = refl
 
 -- then nothing is open, and the event is the truck's
 abbrev loaded : Board
-loaded = record { clock = 45; done = 11; minutes = 0 ∷ 10 ∷ 0 ∷ 45 ∷ replicate 28 0 }
+loaded =
+    record { clock = 45; done = 11; minutes = 0 ∷ 10 ∷ 0 ∷ 45 ∷ replicate 28 0; calls = 1 ∷ 2 ∷ 0 ∷ 3 ∷ replicate 28 0 }
 
 comes-alone : nextEvent (recordsOf haul) (set unset 2 50) loaded ≡ at 60 noPoint 4
 unfolding leastOf setOf stateOf greatest least leastHigh member withOf from passing firstOr howMany some firstThat
@@ -94,7 +96,7 @@ first-of-equal = refl
 
 -- the longest drive is done at 60, the clock of its last event
 haul-finishes : finishing haul (set unset 2 50) ≡ 60
-unfolding runFrom eventsFrom leastOf setOf firstOr ones takeOf eventNumber boardAfter markAll sound each largest stateOf greatest least leastHigh member membersOf withOf belowOf subsetOf from every passing howMany some firstThat checkWith firstBadWith numberForWith lastKind
+unfolding runFrom eventsFrom leastOf setOf firstOr ones takeOf eventNumber boardAfter markAll sound numbered each largest stateOf greatest least leastHigh member membersOf withOf belowOf subsetOf from every passing howMany some firstThat checkWith firstBadWith numberForWith lastKind
 haul-finishes = refl
 
 -- ---- refusals

@@ -16,6 +16,7 @@ use Rattle.plan.specs.declared.Plan.{Plan}
 use Rattle.plan.proofs.Accepted.{Accepted, accepted-plan}
 use Rattle.records.specs.declared.Record.{Record}
 use Rattle.board.specs.Boards.{fresh, minute, sound}
+use Rattle.board.specs.Calls.{nextCall}
 use Rattle.board.specs.Windows.{low}
 use Rattle.board.specs.Stuck.{finished}
 use Rattle.board.specs.Events.{eventMinute, eventPoint, eventSet, endsRunning, markAll, boardAfter, takeOf}
@@ -26,6 +27,7 @@ use Rattle.events.specs.declared.Event.{Event}
 use Rattle.lowhigh.specs.Inside.{lastMinute}
 use Rattle.promise.specs.Plays.{eventBytes, firstEnd, endingAt, comesFirst}
 use Rattle.promise.specs.Plays as plays
+use Rattle.promise.proofs.Calls.{last-of-run}
 use Rattle.promise.proofs.Executor.{Stands, took}
 use Rattle.promise.proofs.Gathering.{set-of-fits}
 use Rattle.promise.proofs.Happening.{Reads, reads}
@@ -37,7 +39,7 @@ use Rattle.worst.specs.Coded.{asPlayed, RunReady, RunAsks, RanOf, DayAsk
 use Rattle.worst.specs.declared.Day.{Day}
 use Rattle.worst.specs.declared.run.Ran.{Ran}
 use Rattle.worst.proofs.Alike.{least-never}
-use Rattle.worst.proofs.OnRuns.{along-stands, on-the-way, rest-of, runs-well}
+use Rattle.worst.proofs.OnRuns.{along-events, along-stands, on-the-way, rest-of, runs-well}
 
 -- ---- bytes
 
@@ -72,7 +74,7 @@ of-both P true x y h k = h
 of-both P false x y h k = k
 
 -- the board after an event, by its numbers and by its bytes
-marked : (b : Board) (s : List ℕ) (e : plays.Event) → Reads s e → afterEvent b (made e) ≡ boardAfter b s
+marked : (b : Board) (s : List ℕ) (e : plays.Event) → Reads s e → afterEvent b (made e) (nextCall b) ≡ boardAfter b s
 unfolding boardAfter
 marked b s e r = rw (r .minute, r .point, r .set) refl
 
@@ -102,6 +104,10 @@ module _ (p : Plan) {s : List ℕ} {m n : ℕ} {w : List ℕ} (r : RunReady p s 
     pub few-events : k ≤ mostPoints
     few-events = omega (arith, way .events, known .few)
 
+    -- the next event's number is the count of events with it
+    next-call : nextCall b ≡ k + 1
+    next-call = omega (arith, last-of-run (along-events p (r .sheet .accepted) (r .passes) w (r .within) a))
+
     pub step-ready : StepReady s m w (b .minutes)
     step-ready =
         let g = sound-means rs b (way .sound) in
@@ -130,11 +136,11 @@ module _ (p : Plan) {s : List ℕ} {m n : ℕ} {w : List ℕ} (r : RunReady p s 
           (omega (arith, least-never (endsRunning rs b) (falls rs w b) (from 0 mostPoints)), set-of-fits _ (from 0 mostPoints))
 
       -- and so is the board after it
-      board-known : afterEvent b (made (nextEvent rs w b)) ≡ after p w b
+      board-known : afterEvent b (made (nextEvent rs w b)) (k + 1) ≡ after p w b
       board-known =
           let e = nextEvent rs w b in
           let t = took p (r .sheet .accepted) b (eventBytes e) (way .sound) (way .accepted f) in
-          marked b (eventBytes e) e (reads e (event-fits .0) (event-fits .1)) ∙ sym (t .1)
+          ap (afterEvent b (made e)) (sym next-call) ∙ marked b (eventBytes e) e (reads e (event-fits .0) (event-fits .1)) ∙ sym (t .1)
 
   -- ---- the loop
 
@@ -146,11 +152,11 @@ module _ (p : Plan) {s : List ℕ} {m n : ℕ} {w : List ℕ} (r : RunReady p s 
 
   module _ {log₀ log : List ℕ} {b : Board} {k : ℕ} (t : Part p w log₀ log b k) where
     part-turn : finished rs b ≡ false → {e : Event} {log′ bytes : List ℕ} {b′ : Board} → EventOf s m n w b e → bytes ≡ eventBytes (asPlayed e)
-        → log′ ≡ paste log (recordBytes * k) bytes recordBytes → b′ ≡ afterEvent b e → Part p w log₀ log′ b′ (k + 1)
+        → log′ ≡ paste log (recordBytes * k) bytes recordBytes → b′ ≡ afterEvent b e (k + 1) → Part p w log₀ log′ b′ (k + 1)
     part-turn f {e} {log′} {bytes} {b′} o eb el ea =
         let known = event-known (t .along) f o in
         let z : suc k ≡ k + 1 = omega arith in
-        let board : b′ ≡ after p w b = ea ∙ ap (afterEvent b) known ∙ board-known (t .along) f in
+        let board : b′ ≡ after p w b = ea ∙ ap (λ (e : Event). afterEvent b e (k + 1)) known ∙ board-known (t .along) f in
         let same : bytes ≡ eventBytes (nextEvent rs w b) = eb ∙ ap (λ (e : Event). eventBytes (asPlayed e)) known in
         rw board
         (record {
@@ -203,10 +209,11 @@ module _ (p : Plan) {s : List ℕ} {m n : ℕ} {w : List ℕ} (r : RunReady p s 
 -- ---- whatever plan the sheet has
 
 -- the clock stays at the minute at which points are marked
-marked-clock : (t : ℕ) (qs : List ℕ) (b : Board) → markAll t qs b .clock ≡ b .clock
+marked-clock : (t n : ℕ) (qs : List ℕ) (b : Board) → markAll t n qs b .clock ≡ b .clock
 unfolding markAll
-marked-clock t [] b = refl
-marked-clock t (q ∷ qs) b = marked-clock t qs (record { clock = b .clock; done = withOf (b .done) q; minutes = set (b .minutes) q t })
+marked-clock t n [] b = refl
+marked-clock t n (q ∷ qs) b =
+    marked-clock t n qs (record { clock = b .clock; done = withOf (b .done) q; minutes = set (b .minutes) q t; calls = set (b .calls) q n })
 
 pub record Going (s : List ℕ) (m n : ℕ) (w log₀ log : List ℕ) (b : Board) (last k : ℕ) : Type 0 where
   pub same : length log ≡ length log₀
@@ -243,11 +250,11 @@ module _ {s : List ℕ} {m n : ℕ} {w log₀ log : List ℕ} {b : Board} {last 
       going-less = omega (arith, one-more (asks .plan) (asks .ready) (own .along) (not-finished h (asks .plan) (asks .ready)), asks .ready .points)
 
   pub going-turn : (b .done ≡ all → ⊥) → {e : Event} {log′ bytes : List ℕ} {b′ : Board} → EventOf s m n w b e → bytes ≡ eventBytes (asPlayed e)
-      → log′ ≡ paste log (recordBytes * k) bytes recordBytes → b′ ≡ afterEvent b e → length log′ ≡ length log → {last′ : ℕ} → last′ ≡ e .minute → Going s m n w log₀ log′ b′ last′ (k + 1)
+      → log′ ≡ paste log (recordBytes * k) bytes recordBytes → b′ ≡ afterEvent b e (k + 1) → length log′ ≡ length log → {last′ : ℕ} → last′ ≡ e .minute → Going s m n w log₀ log′ b′ last′ (k + 1)
   going-turn h {e} o eb el ea same em =
       record {
         same = same ∙ g .same;
-        clock = em ∙ sym (ap (λ (b : Board). b .clock) ea ∙ marked-clock (e .minute) _ (clockAt (e .minute) b));
+        clock = em ∙ sym (ap (λ (b : Board). b .clock) ea ∙ marked-clock (e .minute) _ _ (clockAt (e .minute) b));
         of = λ p r. part-turn p r (g .of p r) (not-finished h p r) o eb el ea;
       }
 

@@ -151,8 +151,11 @@ module _ (p : Plan) (ok : checkOf p .number ≡ 0) (passes : PassesPlan p) (w : 
     play = along-play players (by w) own keeps-to takes-aim
 
     -- Each board of the run is sound, has its room, and is safe in the words of the network.
+    pub along-events : {b : Board} {k : ℕ} → Along p w b k → Run p b k
+    along-events a = happened-run p ok passes (play-happened p ok passes players (play a))
+
     pub along-stands : {b : Board} {k : ℕ} → Along p w b k → Stands p b k
-    along-stands a = stands p ok passes (happened-run p ok passes (play-happened p ok passes players (play a)))
+    along-stands a = stands p ok passes (along-events a)
 
     -- What is promised of each board of the run.
     pub on-the-way : {b : Board} {k : ℕ} → Along p w b k → OnTheWay p w b k

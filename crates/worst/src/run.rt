@@ -70,7 +70,7 @@ pub(crate) fn run(
         let e = next_event(sheet, m, n, durations, board);
         minute = e.minute;
         put(log, RECORD_BYTES * k, event_bytes(e));
-        board = after(board, e);
+        board = after(board, e, k as u32 + 1);
         k += 1;
     }
     Ran {

@@ -21,12 +21,14 @@ use Rattle.plan.specs.declared.Plan.{Plan}
 use Rattle.plan.proofs.Entries.{past}
 use Rattle.plan.proofs.Accepted.{Accepted, accepted-plan}
 use Rattle.board.specs.Boards.{isDone, minute, shortest, longest, running, each, sound}
+use Rattle.board.specs.Calls.{call, lastCall, nextCall}
+use Rattle.calls.proofs.Laws.{numbers-step}
 use Rattle.board.specs.Windows.{isOpen, foremans, low, someOpen}
 use Rattle.board.specs.Stuck.{finished, stuck, latest}
 use Rattle.board.specs.Events.{eventMinute, eventPoint, eventSet, noPoint, wellFormed, endsRunning, inTime, notLate, eventNumber, boardAfter}
 use Rattle.board.specs.declared.Board.{Board}
 use Rattle.board.proofs.Theorems.Each.{clash, both, either, unless, every-point, every-member, each-at, subset-below}
-use Rattle.board.proofs.Theorems.Soundness.{HeldBoard, Sound, SoundLink, sound-means, sound-from}
+use Rattle.board.proofs.Theorems.Soundness.{HeldBoard, Sound, SoundLink, NumbersOf, sound-means, sound-from, largest-call, to-largest}
 use Rattle.board.proofs.Theorems.Links.{LinkOf, link-at, link-to}
 use Rattle.board.proofs.Theorems.Marks.{names, named, named-set, named-point, Marks, after-marks}
 
@@ -188,6 +190,30 @@ module _ (rs : List Record) (ok : Accepted rs) (b : Board) (held : HeldBoard b) 
   more : countOf (b .done) < countOf (next .done)
   more = let c = chosen .1 in marks .more (chosen .0) (c .small) (c .here) (fresh-points (chosen .0) (c .small) (c .here))
 
+  -- An event has at most one foreman's point.
+  one-foreman : (p q : ℕ) → p < mostPoints → q < mostPoints → names s p ≡ true → names s q ≡ true → watched rs p ≡ false → watched rs q ≡ false → p ≡ q
+  one-foreman p q l m n k u v =
+      elim (named s p n) [
+        | inl x ↦ clash (sym (t .ends p l x .0) ∙ u)
+        | inr x ↦ elim (named s q k) [ inl y ↦ clash (sym (t .ends q m y .0) ∙ v) | inr y ↦ x .1 ∙ sym (y .1) ]
+      ]
+
+  -- The numbers after the event: its points have the next one.
+  numbers-after : NumbersOf rs next (nextCall b)
+  numbers-after =
+      numbers-step (watched rs) (names s) (b .done) (b .minutes) (b .calls) (eventMinute s) (lastCall b) (next .done) (next .minutes) (next .calls) (w .numbers)
+      record {
+        some = (chosen .0, chosen .1 .small, chosen .1 .here);
+        waiting = fresh-points;
+        late = λ p l d. omega (arith, w .past p l, t .later);
+        lone = one-foreman;
+        marked = marks .done;
+        minute = marks .here;
+        call = marks .call-here;
+        other-minute = marks .there;
+        other-call = marks .call-there;
+      }
+
   -- a link after the event
   module _ (i : ℕ) (h : i < length rs) (k : is link (getD rs i blank) ≡ true) where
     abbrev l : Record
@@ -233,6 +259,22 @@ module _ (rs : List Record) (ok : Accepted rs) (b : Board) (held : HeldBoard b) 
         ]
     runs-after (inr m) n u = omega (arith, marks .here (l .a) (this .from) m)
 
+    -- the link's start is in an earlier event than its end
+    before-after : (isDone b (l .b) ≡ true) ⊎ (names s (l .b) ≡ true) → call next (l .a) < call next (l .b)
+    before-after (inl d) =
+        let o = w .links i h k .ended d .0 in
+        let a = marks .call-there (l .a) (this .from) (unnamed (l .a) (this .from) o) in
+        let c = marks .call-there (l .b) (this .to) (unnamed (l .b) (this .to) d) in
+        omega (arith, a, c, w .before i h k o d)
+    before-after (inr n) =
+        let d : isDone b (l .a) ≡ true = rw (this .alone) at (ended (l .b) (this .to) (in-set n) .1) in
+        let a = marks .call-there (l .a) (this .from) (unnamed (l .a) (this .from) d) in
+        let c = marks .call-here (l .b) (this .to) n in
+        omega (arith, a, c, w .numbers .most (l .a) (this .from) d)
+
+    earlier-after : isDone next (l .b) ≡ true → call next (l .a) < call next (l .b)
+    earlier-after d = before-after (either _ _ (sym (marks .done (l .b) (this .to)) ∙ d))
+
     neither : (x y : Bool) → (x || y) ≡ false → (x ≡ false) × (y ≡ false)
     neither true y e = clash e
     neither false y e = (refl, e)
@@ -255,6 +297,8 @@ module _ (rs : List Record) (ok : Accepted rs) (b : Board) (held : HeldBoard b) 
         attained = let c = chosen .1 in inr (chosen .0, c .small, rw (marks .done (chosen .0) (c .small), c .here) (or-true (isDone b (chosen .0))), marks .here (chosen .0) (c .small) (c .here) ∙ sym (marks .clock));
         links = link-after;
         few = omega (arith, marks .clock, more, chosen .1 .near, w .few);
+        before = λ i h k d f. earlier-after i h k f;
+        numbers = to-largest rs next numbers-after;
       }
     where
       inside-after : (p : ℕ) → p < mostPoints → (isDone b p ≡ true) ⊎ (names s p ≡ true) → p < points rs
@@ -279,9 +323,16 @@ module _ (p : Plan) (ok : checkOf p .number ≡ 0) (b : Board) (held : HeldBoard
       sound-from (recordsOf p) (boardAfter b s)
       (sound-after (recordsOf p) (accepted-plan p ok) b held (sound-means (recordsOf p) b good) s fits (takes (recordsOf p) b s e))
 
-  -- An event that is taken marks all its points done at its minute, which becomes the clock, and changes nothing else.
+  -- An event that is taken marks all its points done at its minute, which becomes the clock, gives them the next number, and
+  -- changes nothing else.
   pub event-marks : Marks b s (boardAfter b s)
   event-marks = marks (recordsOf p) (accepted-plan p ok) b held (sound-means (recordsOf p) b good) s fits (takes (recordsOf p) b s e)
+
+  -- The largest number after an event that is taken is the one that it gives.
+  pub event-call : lastCall (boardAfter b s) ≡ nextCall b
+  event-call =
+      largest-call (recordsOf p) (boardAfter b s)
+      (numbers-after (recordsOf p) (accepted-plan p ok) b held (sound-means (recordsOf p) b good) s fits (takes (recordsOf p) b s e))
 
   -- An event that is taken finishes at least one point.
   pub event-more : countOf (b .done) < countOf (boardAfter b s .done)

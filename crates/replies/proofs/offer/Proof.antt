@@ -2,7 +2,7 @@
 use borrow.Author.Needs.{needs}
 use native.Mathlib.Omega.{arith}
 use mathlib.Core.Path.{ap}
-use mathlib.Core.List.{List}
+use mathlib.Core.List.{List, []}
 use Prim.Native.Nat.{_≤_, _-_}
 use Rattle.replies.specs.declared.Place.{Place}
 use Rattle.replies.specs.declared.Outcome.the-variants.{Offers}
@@ -15,7 +15,7 @@ use Rattle.replies.proofs.offer.Tie as tie
 abbrev Inv-loop : tie.InvT-loop
 Inv-loop watches latest done minutes opens lows places₀ p₀ places p =
     (p ≤ mostPoints)
-    × Listed (placeFrom (record { clock = 0; done = done; minutes = minutes }) watches (record { opens = opens; lows = lows; high = 0 }) latest) p places
+    × Listed (placeFrom (record { clock = 0; done = done; minutes = minutes; calls = [] }) watches (record { opens = opens; lows = lows; high = 0 }) latest) p places
 
 abbrev μ-loop : tie.MeasureT-loop
 μ-loop watches latest done minutes opens lows places₀ p₀ places p = mostPoints - p

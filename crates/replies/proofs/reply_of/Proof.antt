@@ -16,20 +16,28 @@ nothing-more-requires c κs = search needs
 returns : tie.Need-returns
 returns c = reply-numbered (c .before .before .before .before .args .plan) (c .before .before .before .before .args .board) (c .nothing-more .ensures ∙ reply-refused _ (c .before .before .before .before .args .board) _ (c .before .before .before .check .ensures) (c .before .if1 .taken))
 
-is-sound-requires : tie.Need-is-sound-requires
-is-sound-requires c κs = search needs
+links-of-requires : tie.Need-links-of-requires
+links-of-requires c κs = search needs
+
+is-sound-with-requires : tie.Need-is-sound-with-requires
+is-sound-with-requires c κs = c .links-of .ensures
 
 nothing-more-requires-2 : tie.Need-nothing-more-requires-2
 nothing-more-requires-2 c κs = search needs
 
 returns-2 : tie.Need-returns-2
-returns-2 c = reply-numbered (c .before .before .before .before .before .before .args .plan) (c .before .before .before .before .before .before .args .board) (c .nothing-more2 .ensures ∙ reply-unsound _ (c .before .before .before .before .before .before .args .board) _ (c .before .before .before .before .before .check .ensures) (c .before .before .before .if1 .left) (sym (c .before .before .is-sound .ensures) ∙ not-true _ (c .before .if2 .taken)))
+returns-2 c = reply-numbered (c .before .before .before .before .before .before .before .args .plan) (c .before .before .before .before .before .before .before .args .board) (c .nothing-more2 .ensures ∙ reply-unsound _ (c .before .before .before .before .before .before .before .args .board) _ (c .before .before .before .before .before .before .check .ensures) (c .before .before .before .before .if1 .left) (sym (c .before .before .is-sound-with .ensures) ∙ not-true _ (c .before .if2 .taken)))
 
 reply-sound-requires : tie.Need-reply-sound-requires
-reply-sound-requires c κs = (is-accepted _ (c .before .before .before .before .before .args .board) _ (c .before .before .before .before .check .ensures) (c .before .before .if1 .left), sym (c .before .is-sound .ensures) ∙ not-false _ (c .if2 .left))
+reply-sound-requires c κs =
+    record {
+      accepted = is-accepted _ (c .before .before .before .before .before .before .args .board) _ (c .before .before .before .before .before .check .ensures) (c .before .before .before .if1 .left);
+      sound = sym (c .before .is-sound-with .ensures) ∙ not-false _ (c .if2 .left);
+      links = c .before .before .links-of .ensures;
+    }
 
 returns-3 : tie.Need-returns-3
-returns-3 c = reply-numbered (c .before .before .before .before .before .before .args .plan) (c .before .before .before .before .before .before .args .board) (c .reply-sound .ensures ∙ reply-sound _ (c .before .before .before .before .before .before .args .board) _ (c .before .before .before .before .before .check .ensures) (c .before .before .before .if1 .left) (sym (c .before .before .is-sound .ensures) ∙ not-false _ (c .before .if2 .left)))
+returns-3 c = reply-numbered (c .before .before .before .before .before .before .before .args .plan) (c .before .before .before .before .before .before .before .args .board) (c .reply-sound .ensures ∙ reply-sound _ (c .before .before .before .before .before .before .before .args .board) _ (c .before .before .before .before .before .before .check .ensures) (c .before .before .before .before .if1 .left) (sym (c .before .before .is-sound-with .ensures) ∙ not-false _ (c .before .if2 .left)))
 
 pub reply-of-spec : {M : Type 1} → statement M
 reply-of-spec =
@@ -38,7 +46,8 @@ reply-of-spec =
     check-requires
     nothing-more-requires
     returns
-    is-sound-requires
+    links-of-requires
+    is-sound-with-requires
     nothing-more-requires-2
     returns-2
     reply-sound-requires

@@ -22,9 +22,6 @@ returns c =
     let b = s .args .board in
     c .nothing-more .ensures ∙ reply-finished rs b (sym (c .before .before .is-finished .ensures) ∙ c .before .if1 .taken)
 
-links-of-requires : tie.Need-links-of-requires
-links-of-requires c κs = search needs
-
 windows-of-requires : tie.Need-windows-of-requires
 windows-of-requires c κs = search needs
 
@@ -36,41 +33,41 @@ nothing-more-requires-2 c κs = search needs
 
 returns-2 : tie.Need-returns-2
 returns-2 c =
-    let s = c .before .before .before .before .before .before .before in
+    let s = c .before .before .before .before .before .before in
     let rs = recordsOf (s .args .plan) in
     let b = s .args .board in
-    c .nothing-more2 .ensures ∙ reply-stuck rs b (sym (c .before .before .before .before .before .before .is-finished .ensures) ∙ c .before .before .before .before .before .if1 .left) (sym (c .before .before .is-stuck .ensures) ∙ c .before .if2 .taken)
+    c .nothing-more2 .ensures ∙ reply-stuck rs b (sym (c .before .before .before .before .before .is-finished .ensures) ∙ c .before .before .before .before .if1 .left) (sym (c .before .before .is-stuck .ensures) ∙ c .before .if2 .taken)
 
 nothing-more-requires-3 : tie.Need-nothing-more-requires-3
 nothing-more-requires-3 c κs = search needs
 
 returns-3 : tie.Need-returns-3
 returns-3 c =
-    let s = c .before .before .before .before .before .before .before .before .before in
-    let rs = recordsOf (s .args .plan) in
-    let b = s .args .board in
-    let o = nothing-open rs b _ (c .before .before .before .before .before .windows-of .ensures) (c .before .if3 .taken) in
-    c .nothing-more3 .ensures ∙ reply-waiting rs b (sym (c .before .before .before .before .before .before .before .before .is-finished .ensures) ∙ c .before .before .before .before .before .before .before .if1 .left) (sym (c .before .before .before .before .is-stuck .ensures) ∙ c .before .before .before .if2 .left) o
-
-latest-of-requires : tie.Need-latest-of-requires
-latest-of-requires c κs =
     let s = c .before .before .before .before .before .before .before .before in
     let rs = recordsOf (s .args .plan) in
     let b = s .args .board in
-    clock-small rs b (sound-means rs b (s .pre .1)) (omega (arith, s .good .1 .0 .1 .1 .1 .0 .1))
+    let o = nothing-open rs b _ (c .before .before .before .before .before .windows-of .ensures) (c .before .if3 .taken) in
+    c .nothing-more3 .ensures ∙ reply-waiting rs b (sym (c .before .before .before .before .before .before .before .is-finished .ensures) ∙ c .before .before .before .before .before .before .if1 .left) (sym (c .before .before .before .before .is-stuck .ensures) ∙ c .before .before .before .if2 .left) o
+
+latest-of-requires : tie.Need-latest-of-requires
+latest-of-requires c κs =
+    let s = c .before .before .before .before .before .before .before in
+    let rs = recordsOf (s .args .plan) in
+    let b = s .args .board in
+    clock-small rs b (sound-means rs b (s .pre .sound)) (omega (arith, s .good .1 .0 .1 .1 .1 .0 .1))
 
 offer-requires : tie.Need-offer-requires
 offer-requires c κs = search needs
 
 returns-4 : tie.Need-returns-4
 returns-4 c =
-    let s = c .before .before .before .before .before .before .before .before .before .before in
+    let s = c .before .before .before .before .before .before .before .before .before in
     let rs = recordsOf (s .args .plan) in
     let b = s .args .board in
     let w = c .before .before .before .before .before .before .windows-of .ensures in
     let o = something-open rs b _ w (c .before .before .if3 .left) in
-    let e = offer-here rs b _ (c .before .before .before .before .before .before .before .links-of .ensures) _ w _ (c .before .latest-of .ensures) in
-    c .offer .ensures ∙ e ∙ reply-offers rs b (sym (c .before .before .before .before .before .before .before .before .before .is-finished .ensures) ∙ c .before .before .before .before .before .before .before .before .if1 .left) (sym (c .before .before .before .before .before .is-stuck .ensures) ∙ c .before .before .before .before .if2 .left) o
+    let e = offer-here rs b _ (s .pre .links) _ w _ (c .before .latest-of .ensures) in
+    c .offer .ensures ∙ e ∙ reply-offers rs b (sym (c .before .before .before .before .before .before .before .before .is-finished .ensures) ∙ c .before .before .before .before .before .before .before .if1 .left) (sym (c .before .before .before .before .before .is-stuck .ensures) ∙ c .before .before .before .before .if2 .left) o
 
 pub reply-sound-spec : {M : Type 1} → statement M
 reply-sound-spec =
@@ -79,7 +76,6 @@ reply-sound-spec =
     is-finished-requires
     nothing-more-requires
     returns
-    links-of-requires
     windows-of-requires
     is-stuck-requires
     nothing-more-requires-2

@@ -19,8 +19,11 @@ returns c =
     let e = rw (c .before .before .before .check .ensures) at (ne-eqb _ _ (c .before .if1 .taken)) in
     rw e (rw (c .before .before .before .check .ensures) at (c .answer .ensures))
 
-is-sound-requires : tie.Need-is-sound-requires
-is-sound-requires c κs = search needs
+links-of-requires : tie.Need-links-of-requires
+links-of-requires c κs = search needs
+
+is-sound-with-requires : tie.Need-is-sound-with-requires
+is-sound-with-requires c κs = c .links-of .ensures
 
 answer-requires-2 : tie.Need-answer-requires-2
 answer-requires-2 c κs = search needs
@@ -28,21 +31,18 @@ answer-requires-2 c κs = search needs
 returns-2 : tie.Need-returns-2
 unfolding takeOf
 returns-2 c =
-    let e = rw (c .before .before .before .before .before .check .ensures) at (eq-eqb _ _ (c .before .before .before .if1 .left)) in
-    rw (e, sym (c .before .before .is-sound .ensures) ∙ not-true _ (c .before .if2 .taken)) (c .answer2 .ensures)
-
-links-of-requires : tie.Need-links-of-requires
-links-of-requires c κs = search needs
+    let e = rw (c .before .before .before .before .before .before .check .ensures) at (eq-eqb _ _ (c .before .before .before .before .if1 .left)) in
+    rw (e, sym (c .before .before .is-sound-with .ensures) ∙ not-true _ (c .before .if2 .taken)) (c .answer2 .ensures)
 
 take-next-requires : tie.Need-take-next-requires
 take-next-requires c κs =
-    record { accepted = rw (c .before .before .before .before .before .check .ensures) at (c .before .before .before .if1 .left); sound = sym (c .before .before .is-sound .ensures) ∙ not-false _ (c .before .if2 .left); links = c .links-of .ensures }
+    record { accepted = rw (c .before .before .before .before .before .check .ensures) at (c .before .before .before .if1 .left); sound = sym (c .before .is-sound-with .ensures) ∙ not-false _ (c .if2 .left); links = c .before .before .links-of .ensures }
 
 returns-3 : tie.Need-returns-3
 unfolding takeOf takenNext
 returns-3 c =
     let e = rw (c .before .before .before .before .before .before .check .ensures) at (eq-eqb _ _ (c .before .before .before .before .if1 .left)) in
-    rw (e, sym (c .before .before .before .is-sound .ensures) ∙ not-false _ (c .before .before .if2 .left)) (c .take-next .ensures .0)
+    rw (e, sym (c .before .before .is-sound-with .ensures) ∙ not-false _ (c .before .if2 .left)) (c .take-next .ensures .0)
 
 pub take-spec : {M : Type 1} → statement M
 take-spec =
@@ -51,9 +51,9 @@ take-spec =
     check-requires
     answer-requires
     returns
-    is-sound-requires
+    links-of-requires
+    is-sound-with-requires
     answer-requires-2
     returns-2
-    links-of-requires
     take-next-requires
     returns-3)

@@ -19,20 +19,20 @@ returns c =
     let w = all-refused (s .plan) (s .self) (s .events .now) (s .room .now) (rw (c .before .before .before .check .ensures) at (c .before .if1 .taken)) in
     ((rw (c .before .before .before .check .ensures) at (c .answer .ensures)) ∙ w .0, w .1)
 
-is-sound-requires : tie.Need-is-sound-requires
-is-sound-requires c κs = search needs
+links-of-requires : tie.Need-links-of-requires
+links-of-requires c κs = search needs
+
+is-sound-with-requires : tie.Need-is-sound-with-requires
+is-sound-with-requires c κs = c .links-of .ensures
 
 answer-requires-2 : tie.Need-answer-requires-2
 answer-requires-2 c κs = search needs
 
 returns-2 : tie.Need-returns-2
 returns-2 c =
-    let s = c .before .before .before .before .before .before .before .before .args in
-    let w = all-unsound (s .plan) (s .self) (s .events .now) (s .room .now) (rw (c .before .before .before .before .before .check .ensures) at (c .before .before .before .if1 .left)) (sym (c .before .before .is-sound .ensures) ∙ not-true _ (c .before .if2 .taken)) in
+    let s = c .before .before .before .before .before .before .before .before .before .args in
+    let w = all-unsound (s .plan) (s .self) (s .events .now) (s .room .now) (rw (c .before .before .before .before .before .before .check .ensures) at (c .before .before .before .before .if1 .left)) (sym (c .before .before .is-sound-with .ensures) ∙ not-true _ (c .before .if2 .taken)) in
     (c .answer2 .ensures ∙ w .0, w .1)
-
-links-of-requires : tie.Need-links-of-requires
-links-of-requires c κs = search needs
 
 fewer-requires : tie.Need-fewer-requires
 fewer-requires c κs = search needs
@@ -40,7 +40,7 @@ fewer-requires c κs = search needs
 take-each-requires : tie.Need-take-each-requires
 take-each-requires c κs =
     let n = c .before .fewer .ensures in
-    (record { accepted = rw (c .before .before .before .before .before .before .before .check .ensures) at (c .before .before .before .before .before .if1 .left); sound = sym (c .before .before .before .before .is-sound .ensures) ∙ not-false _ (c .before .before .before .if2 .left); links = c .before .before .links-of .ensures }, omega arith, omega arith)
+    (record { accepted = rw (c .before .before .before .before .before .before .before .check .ensures) at (c .before .before .before .before .before .if1 .left); sound = sym (c .before .before .before .is-sound-with .ensures) ∙ not-false _ (c .before .before .if2 .left); links = c .before .before .before .before .links-of .ensures }, omega arith, omega arith)
 
 answer-requires-3 : tie.Need-answer-requires-3
 answer-requires-3 c κs = search needs
@@ -51,7 +51,7 @@ same-length c = search needs
 returns-3 : tie.Need-returns-3
 returns-3 c =
     let s = c .before .before .before .before .before .before .before .before .before .before .before .before .before .before .args in
-    let w = all-taken (s .plan) (s .self) (s .events .now) (s .room .now) (rw (c .before .before .before .before .before .before .before .before .before .before .before .check .ensures) at (c .before .before .before .before .before .before .before .before .before .if1 .left)) (sym (c .before .before .before .before .before .before .before .before .is-sound .ensures) ∙ not-false _ (c .before .before .before .before .before .before .before .if2 .left)) in
+    let w = all-taken (s .plan) (s .self) (s .events .now) (s .room .now) (rw (c .before .before .before .before .before .before .before .before .before .before .before .check .ensures) at (c .before .before .before .before .before .before .before .before .before .if1 .left)) (sym (c .before .before .before .before .before .before .before .is-sound-with .ensures) ∙ not-false _ (c .before .before .before .before .before .before .if2 .left)) in
     let t = c .before .before .before .take-each .ensures in
     let n = c .before .before .before .before .before .fewer .ensures in
     (rw (t .0, n) at (c .answer3 .ensures) ∙ w .0, rw n at (t .1) ∙ w .1)
@@ -63,10 +63,10 @@ take-all-spec =
     check-requires
     answer-requires
     returns
-    is-sound-requires
+    links-of-requires
+    is-sound-with-requires
     answer-requires-2
     returns-2
-    links-of-requires
     fewer-requires
     take-each-requires
     answer-requires-3

@@ -17,7 +17,7 @@ returns c = rw (eq-eqb _ _ (c .if1 .taken), append-nil) (c .before .before .mark
 
 returns-2 : tie.Need-returns-2
 returns-2 c =
-    rw (ne-eqb _ _ (c .before .if1 .left), c .mark .ensures, c .before .before .before .mark-set .ensures) (marks-append _ _ _ _)
+    rw (ne-eqb _ _ (c .before .if1 .left), c .mark .ensures, c .before .before .before .mark-set .ensures) (marks-append _ _ _ _ _)
 
 pub after-spec : {M : Type 1} → statement M
 after-spec = tie.close (tie.spec mark-set-requires mark-requires returns returns-2)

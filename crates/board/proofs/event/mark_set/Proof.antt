@@ -13,14 +13,19 @@ use Rattle.board.proofs.event.mark_set.Statement.{statement}
 use Rattle.board.proofs.event.mark_set.Tie as tie
 
 abbrev Inv-loop : tie.InvT-loop
-Inv-loop set t minutes₀ done₀ rest₀ minutes done rest =
-    (rest < 2 ^ 32) × (length minutes ≡ mostPoints) × (markAll t (membersOf rest) (record { clock = t; done = done; minutes = minutes }) ≡ markAll t (membersOf set) (record { clock = t; done = done₀; minutes = minutes₀ }))
+Inv-loop set t n minutes₀ calls₀ done₀ rest₀ minutes calls done rest =
+    (rest < 2 ^ 32) × (length minutes ≡ mostPoints) × (length calls ≡ mostPoints)
+    × (markAll t n (membersOf rest) (record { clock = t; done = done; minutes = minutes; calls = calls })
+    ≡ markAll t n (membersOf set) (record { clock = t; done = done₀; minutes = minutes₀; calls = calls₀ }))
 
 abbrev μ-loop : tie.MeasureT-loop
-μ-loop set t minutes₀ done₀ rest₀ minutes done rest = countOf rest
+μ-loop set t n minutes₀ calls₀ done₀ rest₀ minutes calls done rest = countOf rest
 
 loop-holds : tie.Need-loop-holds Inv-loop μ-loop
-loop-holds c = (c .before .fits .set .fits, rw length-map at (c .before .good .0 .1 .1 .1 .1 .0 .1 .0 .1), refl)
+loop-holds c =
+    let s = c .before .before in
+    let g = s .good .0 .1 .1 .1 .1 in
+    (s .fits .set .fits, rw length-map at (g .0 .1 .0 .1), rw length-map at (g .1 .0 .1 .0 .1), refl)
 
 first-requires : tie.Need-first-requires Inv-loop μ-loop
 first-requires c κs = search needs
@@ -35,6 +40,16 @@ mul-minutes c =
 
 array-write-minutes : tie.Need-array-write-minutes Inv-loop μ-loop
 array-write-minutes c =
+    let u = turn _ _ _ (omega arith) (c .before .before .loop .inv .0) (c .first .ensures) refl in
+    omega (arith, u .first .small)
+
+mul-calls : tie.Need-mul-calls Inv-loop μ-loop
+mul-calls c =
+    let u = turn _ _ _ (omega arith) (c .before .before .loop .inv .0) (c .first .ensures) refl in
+    omega (arith, u .first .small)
+
+array-write-calls : tie.Need-array-write-calls Inv-loop μ-loop
+array-write-calls c =
     let u = turn _ _ _ (omega arith) (c .before .before .loop .inv .0) (c .first .ensures) refl in
     omega (arith, u .first .small)
 
@@ -53,10 +68,10 @@ loop-again : tie.Need-loop-again Inv-loop μ-loop
 loop-again c =
     let i = c .before .before .before .before .loop .inv in
     let u = turn _ _ _ (omega arith) (i .0) (c .before .before .first .ensures) (c .without .ensures) in
-    (u .fits, simp length-set (i .1), rw (c .before .with .ensures) (marks-turn _ _ _ _ u _) ∙ i .2)
+    (u .fits, simp length-set (i .1), simp length-set (i .2), rw (c .before .with .ensures) (marks-turn _ _ _ _ _ u _) ∙ i .3)
 
 returns : tie.Need-returns Inv-loop μ-loop
-returns c = marks-end _ _ ∙ rw (c .loop-test .left) at (c .before .loop .inv .2)
+returns c = marks-end _ _ _ ∙ rw (c .loop-test .left) at (c .before .loop .inv .3)
 
 pub mark-set-spec : {M : Type 1} → statement M
 mark-set-spec =
@@ -69,6 +84,8 @@ mark-set-spec =
     cast-place
     mul-minutes
     array-write-minutes
+    mul-calls
+    array-write-calls
     with-requires
     without-requires
     loop-less

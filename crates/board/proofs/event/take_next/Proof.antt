@@ -1,14 +1,15 @@
 -- `board::event::take_next` meets its contract. Assumes nothing.
 use native.Mathlib.Omega.{arith}
 use borrow.Author.Needs.{needs}
-use mathlib.Core.Path.{ap, _∙_}
-use Prim.Native.Nat.{ℕ}
+use mathlib.Core.Path.{_≡_, ap, _∙_}
+use Prim.Native.Nat.{ℕ, _+_}
 use lib.ListN.{length-map}
 use Rattle.plan.specs.APlan.{points, recordsOf}
 use Rattle.events.proofs.Forming.{formed-length}
+use Rattle.board.specs.Calls.{nextCall}
 use Rattle.board.specs.Events.{taken}
 use Rattle.board.proofs.Taking.{taken-formed, next-refused, next-taken}
-use Rattle.board.proofs.Theorems.Soundness.{HeldBoard}
+use Rattle.board.proofs.Theorems.Soundness.{HeldBoard, few-calls}
 use Rattle.board.proofs.Streaming.{next-sound}
 use Rattle.board.proofs.event.take_next.Statement.{statement}
 use Rattle.board.proofs.event.take_next.Tie as tie
@@ -32,6 +33,15 @@ event-in-requires c κs =
     let n = rw (c .before .event-number .ensures) at (c .if1 .left) in
     omega (arith, formed-length (points (recordsOf (a .plan))) (a .event .now) (taken-formed (recordsOf (a .plan)) (a .board) (a .event .now) n))
 
+last-done-requires : tie.Need-last-done-requires
+last-done-requires c κs = search needs
+
+add-n : tie.Need-add-n
+add-n c =
+    let q = c .before .before .before .before .before .before in
+    let d = q .good .1 .0 .1 .1 .1 .0 .1 in
+    omega (arith, c .last-done .ensures, few-calls (recordsOf (q .args .plan)) (q .args .board) (q .pre .sound) (omega arith))
+
 after-requires : tie.Need-after-requires
 after-requires c κs = search needs
 
@@ -40,13 +50,15 @@ answer-requires-2 c κs = search needs
 
 returns-2 : tie.Need-returns-2
 returns-2 c =
-    let a = c .before .before .before .before .before .before .args in
-    let n = rw (c .before .before .before .before .event-number .ensures) at (c .before .before .before .if1 .left) in
-    let t = rw (c .before .after .ensures, c .before .before .event-in .ensures .0) at (c .answer2 .ensures) in
-    let e = t ∙ next-taken (recordsOf (a .plan)) (a .board) (a .event .now) n in
-    let q = c .before .before .before .before .before .before in
-    let held : HeldBoard (a .board) = record { room = rw length-map at (q .good .1 .0 .1 .1 .1 .1 .0 .1 .0 .1); done = omega (arith, q .good .1 .0 .1 .1 .1 .0 .1) } in
-    (e, rw e (next-sound (a .plan) (q .pre .accepted) (a .board) held (q .pre .sound) (a .event .now) (c .before .before .event-in .ensures .1)))
+    let q = c .before .before .before .before .before .before .before .before in
+    let a = q .args in
+    let g = q .good .1 .0 .1 .1 .1 in
+    let n = rw (c .before .before .before .before .before .before .event-number .ensures) at (c .before .before .before .before .before .if1 .left) in
+    let t = rw (c .before .after .ensures, c .before .before .before .before .event-in .ensures .0) at (c .answer2 .ensures) in
+    let m : c .before .before .last-done .result + 1 ≡ nextCall (a .board) = omega (arith, c .before .before .last-done .ensures) in
+    let e = t ∙ next-taken (recordsOf (a .plan)) (a .board) (a .event .now) n _ m in
+    let held : HeldBoard (a .board) = record { room = rw length-map at (g .1 .0 .1 .0 .1); done = omega (arith, g .0 .1); calls = rw length-map at (g .1 .1 .0 .1 .0 .1) } in
+    (e, rw e (next-sound (a .plan) (q .pre .accepted) (a .board) held (q .pre .sound) (a .event .now) (c .before .before .before .before .event-in .ensures .1)))
 
 pub take-next-spec : {M : Type 1} → statement M
 take-next-spec =
@@ -56,6 +68,8 @@ take-next-spec =
     answer-requires
     returns
     event-in-requires
+    last-done-requires
+    add-n
     after-requires
     answer-requires-2
     returns-2)

@@ -23,6 +23,12 @@ enum-known-ask c = search needs
 not-late-requires : tie.Need-not-late-requires
 not-late-requires c κs = search needs
 
+enum-told-3 : tie.Need-enum-told-3
+enum-told-3 c = search needs
+
+earlier-requires : tie.Need-earlier-requires
+earlier-requires c κs = search needs
+
 returns : tie.Need-returns
 returns c = rw (c .before .enum-told .given .1) (c .in-bounds .ensures)
 
@@ -31,6 +37,9 @@ returns-2 c = rw (c .before .enum-told2 .given .1) (ap not (c .is-running .ensur
 
 returns-3 : tie.Need-returns-3
 returns-3 c = rw (c .before .before .ask .given .1) (c .not-late .ensures)
+
+returns-4 : tie.Need-returns-4
+returns-4 c = rw (c .before .enum-told3 .given .1) (c .earlier .ensures)
 
 pub is-so-spec : {M : Type 1} → statement M
 is-so-spec =
@@ -42,6 +51,9 @@ is-so-spec =
     is-running-requires
     enum-known-ask
     not-late-requires
+    enum-told-3
+    earlier-requires
     returns
     returns-2
-    returns-3)
+    returns-3
+    returns-4)

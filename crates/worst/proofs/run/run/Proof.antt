@@ -33,6 +33,12 @@ event-bytes-requires c κs = search needs
 put-requires : tie.Need-put-requires Inv-loop μ-loop
 put-requires c κs = going-room (c .before .before .before .before .before .loop .inv) (c .before .before .before .before .before .before .before .first-points .ensures) (c .before .before .before .before .before .before .before .before .before .pre) (c .before .before .before .if1 .taken)
 
+cast-after : tie.Need-cast-after Inv-loop μ-loop
+cast-after c = omega (arith, going-few (c .before .before .before .before .before .before .before .before .loop .inv) (c .before .before .before .before .before .before .before .before .before .before .first-points .ensures) (c .before .before .before .before .before .before .before .before .before .before .before .before .pre))
+
+add-after : tie.Need-add-after Inv-loop μ-loop
+add-after c = omega (arith, going-few (c .before .before .before .before .before .before .before .before .loop .inv) (c .before .before .before .before .before .before .before .before .before .before .first-points .ensures) (c .before .before .before .before .before .before .before .before .before .before .before .before .pre))
+
 after-requires : tie.Need-after-requires Inv-loop μ-loop
 after-requires c κs = search needs
 
@@ -55,8 +61,8 @@ loop-again c =
     (c .before .before .before .put .kept .0)
     (omega arith)
 
-cast-t17 : tie.Need-cast-t17 Inv-loop μ-loop
-cast-t17 c = omega (arith, going-few (c .before .before .loop .inv) (c .before .before .before .before .first-points .ensures) (c .before .before .before .before .before .before .pre))
+cast-t19 : tie.Need-cast-t19 Inv-loop μ-loop
+cast-t19 c = omega (arith, going-few (c .before .before .loop .inv) (c .before .before .before .before .first-points .ensures) (c .before .before .before .before .before .before .pre))
 
 same-length : tie.Need-same-length Inv-loop μ-loop
 same-length c = c .before .before .loop .inv .same
@@ -77,10 +83,12 @@ run-spec =
     mul-put
     event-bytes-requires
     put-requires
+    cast-after
+    add-after
     after-requires
     add-k
     loop-less
     loop-again
-    cast-t17
+    cast-t19
     same-length
     returns)

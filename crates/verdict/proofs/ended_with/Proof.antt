@@ -1,10 +1,10 @@
--- `verdict::ended` meets its contract. Assumes nothing.
+-- `verdict::ended_with` meets its contract. Assumes nothing.
 use borrow.Author.Needs.{needs}
 use mathlib.Core.Path.{refl, sym, _∙_}
 use borrow.Author.Tests.{eq-eqb, ne-eqb, not-true, not-false}
 use Rattle.verdict.proofs.Broken.{ended-by}
-use Rattle.verdict.proofs.ended.Statement.{statement}
-use Rattle.verdict.proofs.ended.Tie as tie
+use Rattle.verdict.proofs.ended_with.Statement.{statement}
+use Rattle.verdict.proofs.ended_with.Tie as tie
 
 check-requires : tie.Need-check-requires
 check-requires c κs = search needs
@@ -14,13 +14,13 @@ returns c =
     let e = rw (c .before .before .check .ensures) at (ne-eqb _ _ (c .if1 .taken)) in
     c .before .before .check .ensures ∙ ended-by _ _ e refl refl
 
-is-sound-requires : tie.Need-is-sound-requires
-is-sound-requires c κs = search needs
+is-sound-with-requires : tie.Need-is-sound-with-requires
+is-sound-with-requires c κs = search needs
 
 returns-2 : tie.Need-returns-2
 returns-2 c =
     let e = rw (c .before .before .before .before .check .ensures) at (eq-eqb _ _ (c .before .before .if1 .left)) in
-    ended-by _ _ e (sym (c .before .is-sound .ensures) ∙ not-true _ (c .if2 .taken)) refl
+    ended-by _ _ e (sym (c .before .is-sound-with .ensures) ∙ not-true _ (c .if2 .taken)) refl
 
 is-finished-requires : tie.Need-is-finished-requires
 is-finished-requires c κs = search needs
@@ -28,22 +28,22 @@ is-finished-requires c κs = search needs
 returns-3 : tie.Need-returns-3
 returns-3 c =
     let e = rw (c .before .before .before .before .before .before .check .ensures) at (eq-eqb _ _ (c .before .before .before .before .if1 .left)) in
-    let s = sym (c .before .before .before .is-sound .ensures) ∙ not-false _ (c .before .before .if2 .left) in
+    let s = sym (c .before .before .before .is-sound-with .ensures) ∙ not-false _ (c .before .before .if2 .left) in
     ended-by _ _ e s (sym (c .before .is-finished .ensures) ∙ not-true _ (c .if3 .taken))
 
 returns-4 : tie.Need-returns-4
 returns-4 c =
     let e = rw (c .before .before .before .before .before .before .check .ensures) at (eq-eqb _ _ (c .before .before .before .before .if1 .left)) in
-    let s = sym (c .before .before .before .is-sound .ensures) ∙ not-false _ (c .before .before .if2 .left) in
+    let s = sym (c .before .before .before .is-sound-with .ensures) ∙ not-false _ (c .before .before .if2 .left) in
     ended-by _ _ e s (sym (c .before .is-finished .ensures) ∙ not-false _ (c .if3 .left))
 
-pub ended-spec : {M : Type 1} → statement M
-ended-spec =
+pub ended-with-spec : {M : Type 1} → statement M
+ended-with-spec =
     tie.close
     (tie.spec
     check-requires
     returns
-    is-sound-requires
+    is-sound-with-requires
     returns-2
     is-finished-requires
     returns-3

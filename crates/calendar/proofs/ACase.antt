@@ -41,7 +41,7 @@ abbrev odd : Board
 odd = clockAt 5 fresh
 
 abbrev over : Board
-over = markAll 5 (1 ∷ []) (markAll 4 (0 ∷ []) (clockAt 5 fresh))
+over = markAll 5 2 (1 ∷ []) (markAll 4 1 (0 ∷ []) (clockAt 5 fresh))
 
 pub a-sheet : calendarText pair over evening
     ≡ ascii "BEGIN:VCALENDAR\r\nVERSION:2.0\r\nPRODID:-//Ponds//Sheets//EN\r\nBEGIN:VEVENT\r\nUID:0-20991231T235900Z\r\nDTSTAMP:20991231T235900Z\r\nDTSTART:20991231T235900Z\r\nSUMMARY:Point 0 0\r\nEND:VEVENT\r\nBEGIN:VEVENT\r\nUID:1-21000101T000000Z\r\nDTSTAMP:21000101T000000Z\r\nDTSTART:21000101T000000Z\r\nSUMMARY:Point 1 7\r\nEND:VEVENT\r\nEND:VCALENDAR\r\n"

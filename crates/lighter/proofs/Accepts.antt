@@ -7,10 +7,10 @@ use Prim.Native.Nat.{ℕ, zero, suc, _+_, _≤_, _<_}
 use native.Mathlib.Omega.{arith}
 use lib.Dec.{eqb, ltb, leb}
 use lib.ListN.{length, take, replicate, length-append}
-use lib.Seq.{take-append-seam}
+use lib.Seq.{take-append-seam, getD-at}
 use borrow.Author.Tests.{ltb-true, lt-ltb, leb-true, le-leb, eqb-true, ne-eqb, le-ltb, ltb-false, not-true}
 use Rattle.plan.specs.Limits.{mostRecords, mostOrdinary, farthest}
-use Rattle.plan.specs.APlan.{Kind, point, link, ordinary, wait, unknown, kindOf, is, one, howMany, points, watched, leads, linkTo, endsAt, fromTo, gapOf, recordsOf, planOf}
+use Rattle.plan.specs.APlan.{Kind, point, link, ordinary, wait, unknown, kindOf, is, one, howMany, points, watched, leads, linkTo, endsAt, fromTo, blank, gapOf, recordsOf, planOf}
 use Rattle.plan.specs.ReplyNumbers.{Before, after, lastKind, named, joined, bounded, numberFor, numberForWith, numberOf, firstBad, firstBadWith, checkOf, checkWith, accepted}
 use Rattle.plan.specs.Held.{plain}
 use Rattle.records.specs.declared.Record.{Record}
@@ -153,3 +153,33 @@ pub plan-accepted : (rs : List Record) → 0 < length rs → length rs ≤ mostR
 unfolding checkWith
 plan-accepted rs some few v =
     rw (ne-eqb (length rs) 0 (λ e. omega arith), le-ltb mostRecords (length rs) few, records-of rs) (valid-kept v)
+
+-- an accepted plan has a record
+pub count-some : (p : Plan) → checkOf p .number ≡ 0 → 0 < p .count
+unfolding checkWith
+count-some p e = go (p .count) refl
+  where
+    go : (n : ℕ) → p .count ≡ n → 0 < p .count
+    go zero h = absurd (let z : _≡_ {A = ℕ} 1 0 = rw h at e in omega arith)
+    go (suc n) h = omega arith
+
+-- ---- a point is left
+
+points-there : (l : List Record) → 0 < points l → 0 < length l
+unfolding howMany
+points-there [] h = h
+points-there (x ∷ l) h = omega arith
+
+module _ (ks : List Record) (r : Record) (more : List Record) (kind : r .kind ≡ 3) (v : Valid [] (ks ++ (r ∷ more))) where
+  -- the points are the same without it
+  pub same-points : points (ks ++ (r ∷ more)) ≡ points (ks ++ more)
+  same-points = let z : one (is point r) ≡ 0 = rw kind refl in omega (arith, z, many-skip (is point) r more ks)
+
+  pub its-rules : Keeps (ks ++ (r ∷ more)) r
+  its-rules =
+      let l : length ks < length (ks ++ (r ∷ more)) = omega (arith, length-append ks (r ∷ more)) in
+      let e = getD-at ks r more blank (length ks) refl in
+      subst (λ (x : Record). Keeps (ks ++ (r ∷ more)) x) e (keeps-it (rw e kind) (whole (ks ++ (r ∷ more)) v (length ks) l))
+
+  pub some-left : 0 < length (ks ++ more)
+  some-left = points-there (ks ++ more) (omega (arith, its-rules .from, same-points))

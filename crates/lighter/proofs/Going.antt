@@ -12,20 +12,19 @@ use lib.Seq.{append-snoc, drop-cons, drop-length, take-at, drop-at, getD-at, tak
 use borrow.Author.Tests.{eqb-true}
 use Rattle.plan.specs.Choice.{if_then_else_}
 use Rattle.plan.specs.Limits.{mostRecords}
-use Rattle.plan.specs.APlan.{point, ordinary, is, one, points, howMany, blank, recordsOf, planOf}
+use Rattle.plan.specs.APlan.{one, points, blank, recordsOf, planOf}
 use Rattle.records.specs.declared.Record.{Record}
 use Rattle.plan.specs.declared.Plan.{Plan}
 use Rattle.network.specs.Passing.{Passes}
 use Rattle.vee.specs.PlanTest.{netOf, spans, many, mostProjections}
 use Rattle.vee.proofs.Rules.{Valid}
-use Rattle.vee.proofs.Plans.{whole}
 use Rattle.vee.proofs.Testing.{accepted-plan}
 use Rattle.dropping.specs.Spare.{Told, told-yes, told-no, Spare, SpareAsks, SpareReady}
 use Rattle.lighter.specs.declared.Lighter.{Lighter}
 use Rattle.lighter.specs.Lighter.{MayGo, Goes, ends, drops, keeps, lighterAs}
 use Rattle.lighter.specs.Inside.{but, DropAsks, Dropped}
-use Rattle.lighter.proofs.Skips.{many-skip, spans-skip}
-use Rattle.lighter.proofs.Accepts.{valid-without, records-of, Keeps, keeps-it, plan-accepted}
+use Rattle.lighter.proofs.Skips.{spans-skip}
+use Rattle.lighter.proofs.Accepts.{valid-without, records-of, plan-accepted, same-points, its-rules, some-left}
 use Rattle.lighter.proofs.Sparing.{told-may}
 use Rattle.lighter.proofs.Copying.{stored, stored-again}
 
@@ -172,31 +171,18 @@ module _ {rs : List Record} {total : ℕ} {kept : Plan} {dropped : List ℕ} {co
         same-links : spans (g .ks ++ drop (suc i) rs) ≡ spans rs
         same-links = sym (spans-skip (g .ks) r more (rw kind refl)) ∙ ap spans (sym records-here) ∙ g .links
 
-        same-points : points (g .ks ++ (r ∷ more)) ≡ points (g .ks ++ drop (suc i) rs)
-        same-points = let z : one (is point r) ≡ 0 = rw kind refl in omega (arith, z, many-skip (is point) r more (g .ks))
-
-        its-rules : Keeps (g .ks ++ (r ∷ more)) r
-        its-rules =
-            let l : length (g .ks) < length (g .ks ++ (r ∷ more)) = omega (arith, length-append (g .ks) (r ∷ more)) in
-            let e = getD-at (g .ks) r more blank (length (g .ks)) refl in
-            subst (λ (x : Record). Keeps (g .ks ++ (r ∷ more)) x) e (keeps-it (rw e kind) (whole (g .ks ++ (r ∷ more)) valid-here (length (g .ks)) l))
-
-        points-there : (l : List Record) → 0 < points l → 0 < length l
-        unfolding howMany
-        points-there [] h = h
-        points-there (x ∷ l) h = omega arith
-
         rest-ready : SpareReady (planOf (g .ks ++ drop (suc i) rs)) r total
         rest-ready =
             let e = records-of (g .ks ++ drop (suc i) rs) in
             let n : points (recordsOf (planOf (g .ks ++ drop (suc i) rs))) ≡ points (g .ks ++ drop (suc i) rs) = ap (λ (l : List Record). points l) e in
-            let k = its-rules in
+            let k = its-rules (g .ks) r more kind valid-here in
+            let m = same-points (g .ks) r more kind valid-here in
             record {
-              ok = plan-accepted (g .ks ++ drop (suc i) rs) (points-there (g .ks ++ drop (suc i) rs) (omega (arith, k .from, same-points))) rest-many rest-valid;
+              ok = plan-accepted (g .ks ++ drop (suc i) rs) (some-left (g .ks) r more kind valid-here) rest-many rest-valid;
               counted = g .counted ∙ ap many (sym (ap spans e ∙ same-links));
               few = g .few-projections;
-              from = omega (arith, k .from, same-points, n);
-              to = omega (arith, k .to, same-points, n);
+              from = omega (arith, k .from, m, n);
+              to = omega (arith, k .to, m, n);
               up = k .up;
               down = k .down;
             }

@@ -6,3 +6,6 @@ pub mod Sparing
 pub mod Copying
 pub mod Going
 pub mod Answering
+pub mod Keeping
+pub mod Standing
+pub mod Theorems

@@ -1,7 +1,9 @@
 -- What each open function ensures permits a single reply for each argument, lent rooms included, and none asks anything. A contract
--- that is an equation does so by one law; that of the plan test does by `one-answer`. Assumes nothing.
+-- that is an equation does so by one law; that of the plan test does by `one-answer`, and that of the lighter plan by `one-lighter`. Assumes
+-- nothing.
 use mathlib.Core.Path.{_≡_, sym, _∙_}
 use Rattle.vee.proofs.Single.{one-answer}
+use Rattle.lighter.proofs.Theorems.{one-lighter}
 use Rattle.contracts.specs.Contracts.{SingleReplies}
 
 -- an equation permits one
@@ -47,6 +49,12 @@ single-replies =
       day-of = (λ κ a. tt, λ κ a r r′ o o′ x y. same (x .0) (y .0));
       day-of-leaves = λ κ a r r′ o o′ x y. same (x .1) (y .1);
       close = (λ κ a. tt, λ κ a r r′ o o′ x y. same x y);
+      lighter-of = (λ κ a. tt, λ κ a r r′ o o′ x y. one-lighter x y);
+      is-origin = (λ κ a. tt, λ κ a r r′ o o′ x y. same x y);
+      shown = (λ κ a. tt, λ κ a r r′ o o′ x y. same x y);
+      most-text = (λ κ a. tt, λ κ a r r′ o o′ x y. same x y);
+      write-calendar = (λ κ a. tt, λ κ a r r′ o o′ x y. same (x .0) (y .0));
+      write-calendar-leaves = λ κ a r r′ o o′ x y. same (x .1) (y .1);
       blank = (λ κ a. tt, λ κ a r r′ o o′ x y. same x y);
       plan-line = (λ κ a. tt, λ κ a r r′ o o′ x y. same x y);
       numbers-line = (λ κ a. tt, λ κ a r r′ o o′ x y. same x y);

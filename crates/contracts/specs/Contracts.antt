@@ -37,6 +37,11 @@ use Rattle.worst.proofs.worst_of.Reads as worst-of-code
 use Rattle.worst.proofs.day_of.Reads as day-of-code
 use Rattle.closure.proofs.close.Reads as close-code
 use Rattle.lines.proofs.blank.Reads as blank-code
+use Rattle.lighter.proofs.lighter_of.Reads as lighter-of-code
+use Rattle.dates.proofs.is_origin.Reads as is-origin-code
+use Rattle.dates.proofs.shown.Reads as shown-code
+use Rattle.calendar.proofs.most_text.Reads as most-text-code
+use Rattle.calendar.proofs.write_calendar.Reads as write-calendar-code
 use Rattle.text.proofs.plan_line.Reads as plan-line-code
 use Rattle.text.proofs.numbers_line.Reads as numbers-line-code
 use Rattle.text.proofs.event_line.Reads as event-line-code
@@ -118,6 +123,15 @@ pub record SingleReplies : Type 0 where
   pub day-of-leaves : Leaves day-of-code.Post (λ o. o .1 .1 .0 .now)
   -- closure
   pub close : Single close-code.Pre close-code.Post
+  -- lighter
+  pub lighter-of : Single lighter-of-code.Pre lighter-of-code.Post
+  -- dates
+  pub is-origin : Single is-origin-code.Pre is-origin-code.Post
+  pub shown : Single shown-code.Pre shown-code.Post
+  -- calendar
+  pub most-text : Single most-text-code.Pre most-text-code.Post
+  pub write-calendar : Single write-calendar-code.Pre write-calendar-code.Post
+  pub write-calendar-leaves : Leaves write-calendar-code.Post (λ o. o .1 .1 .1 .0 .now)
   -- text
   pub blank : Single blank-code.Pre blank-code.Post
   pub plan-line : Single plan-line-code.Pre plan-line-code.Post

@@ -3,6 +3,7 @@
 use crate::asks::{self, Ask, READING};
 use crate::count::Count;
 use crate::draw::Draw;
+use crate::icalendar;
 use crate::programs::{Shown, Way};
 use crate::texts;
 use std::io;
@@ -33,6 +34,8 @@ pub struct Found {
     pub way: Way,
     pub ours: Shown,
     pub theirs: Shown,
+    /// What is wrong with what ours said, where that can be told from it alone.
+    pub fault: Option<String>,
 }
 
 /// What a comparison brought.
@@ -62,11 +65,30 @@ fn plain(verbs: &[&str], shown: &Shown) -> Shown {
     shown
 }
 
+/// What is wrong with what was said, where that can be told without the other program: a calendar is read again and held to
+/// the sheet.
+pub fn fault(words: &[String], input: &[u8], shown: &Shown) -> Option<String> {
+    let [verb, origin @ ..] = words else {
+        return None;
+    };
+    if verb != "calendar" || shown.ended != ENDINGS[0] {
+        return None;
+    }
+    let numbers: Option<Vec<i64>> = origin.iter().map(|word| word.parse().ok()).collect();
+    match numbers.and_then(|numbers| numbers.try_into().ok()) {
+        Some(origin) => icalendar::fault(input, origin, &shown.bytes),
+        None => Some("a calendar of words that are none".to_string()),
+    }
+}
+
 /// What came up in what was said of an ask.
 fn keys(ask: &Ask, shown: &Shown) -> Vec<String> {
     let verb = ask.words.first().map_or("", String::as_str);
     if shown.ended == ENDINGS[2] {
         return vec!["wrong usage".to_string()];
+    }
+    if verb == "lighter" && shown.ended == ENDINGS[0] {
+        return vec![dropped(&shown.errors)];
     }
     let file = !matches!(verb, "test" | "worst");
     if file && shown.ended == ENDINGS[0] && shown.errors.is_empty() {
@@ -102,6 +124,20 @@ fn keys(ask: &Ask, shown: &Shown) -> Vec<String> {
     vec![format!("unknown answer to {verb}: {line:?}")]
 }
 
+/// What came up in the lines about the records that went.
+fn dropped(errors: &[u8]) -> String {
+    let text = String::from_utf8_lossy(errors);
+    let number = |line: &str| line.strip_prefix("dropped ")?.parse::<u32>().ok();
+    let whole = text.is_empty() || text.ends_with('\n');
+    if !whole || text.lines().any(|line| number(line).is_none()) {
+        return format!("unknown lines of lighter: {text:?}");
+    }
+    match text.is_empty() {
+        true => "lighter dropped none".to_string(),
+        false => "lighter dropped some".to_string(),
+    }
+}
+
 /// What must come up for these verbs: what is said, and the cases.
 pub fn expected(verbs: &[&str]) -> Vec<String> {
     let mut all = vec!["wrong usage".to_string()];
@@ -119,6 +155,8 @@ pub fn expected(verbs: &[&str]) -> Vec<String> {
             "worst" => &["minute", "minute past projection 0", "13", "60"],
             "day" => &["file", "13", "60"],
             "close" => &["file", "61", "62", "63"],
+            "calendar" => &["file", "31", "51"],
+            "lighter" => &["dropped none", "dropped some", "13", "60"],
             _ => &["file", "40", "41", "42", "43"],
         };
         let own = own.iter().map(|own| own.to_string());
@@ -217,7 +255,8 @@ fn work(worker: usize, shared: &Shared) -> io::Result<Option<Found>> {
             }
             let way = way(&mut draw, &ask);
             let (ours, theirs) = (shared.run)(worker, &ask, way)?;
-            if differ(shared.verbs, &ours, &theirs) {
+            let fault = fault(&ask.words, &ask.input, &ours);
+            if fault.is_some() || differ(shared.verbs, &ours, &theirs) {
                 return Ok(Some(Found {
                     batch,
                     k,
@@ -225,6 +264,7 @@ fn work(worker: usize, shared: &Shared) -> io::Result<Option<Found>> {
                     way,
                     ours,
                     theirs,
+                    fault,
                 }));
             }
             shared.asks.fetch_add(1, Ordering::Relaxed);

@@ -4,14 +4,14 @@ use mathlib.Core.Path.{_≡_, refl}
 use mathlib.Core.List.{List, [], _∷_}
 use Prim.Native.Nat.{ℕ}
 use lib.IntN.{pos}
+use lib.Count.{ones}
 use lib.ListN.{replicate}
-use Rattle.points.specs.Sets.{member, membersOf, withOf, belowOf, subsetOf, countOf, from, every, passing}
+use Rattle.points.specs.Sets.{member, membersOf, withOf, belowOf, subsetOf, from, every, passing}
 use Rattle.values.specs.Ascii.{ascii}
 use Rattle.lines.specs.Text.{digits}
 use Rattle.records.specs.declared.Record.{Record}
 use Rattle.plan.specs.APlan.{planOf, howMany, some, firstThat}
 use Rattle.plan.specs.ReplyNumbers.{checkWith, firstBadWith, numberForWith, lastKind}
-use Rattle.plan.specs.declared.Plan.{Plan}
 use Rattle.board.specs.Boards.{fresh, sound, each, largest}
 use Rattle.board.specs.Events.{markAll}
 use Rattle.board.specs.Inside.{clockAt}
@@ -20,7 +20,8 @@ use Rattle.verdict.specs.Verdicts.{endedOf}
 use Rattle.dates.specs.Gregorian.{leap, daysIn, isDate, nextDay, daysLater, isOrigin, shown}
 use Rattle.dates.specs.declared.Stamp.{Stamp}
 use Rattle.moments.specs.Event.{eventText}
-use Rattle.calendar.specs.Calendars.{eventsOf, calendarText, answer, calendarOf, writtenOf}
+use Rattle.calendar.specs.Calendars.{eventsOf, calendarText, answer, calendarOf}
+use Rattle.calendar.specs.declared.Calendar.{Calendar}
 
 -- two points, the second of pond 7
 abbrev pair : List Record
@@ -47,3 +48,16 @@ pub a-sheet : calendarText pair over evening
     ≡ ascii "BEGIN:VCALENDAR\r\nVERSION:2.0\r\nPRODID:-//Ponds//Sheets//EN\r\nBEGIN:VEVENT\r\nUID:0-20991231T235900Z\r\nDTSTAMP:20991231T235900Z\r\nDTSTART:20991231T235900Z\r\nSUMMARY:Point 0 0\r\nEND:VEVENT\r\nBEGIN:VEVENT\r\nUID:1-21000101T000000Z\r\nDTSTAMP:21000101T000000Z\r\nDTSTART:21000101T000000Z\r\nSUMMARY:Point 1 7\r\nEND:VEVENT\r\nEND:VCALENDAR\r\n"
 unfolding calendarText eventsOf eventText digits markAll withOf member howMany leap daysIn isDate nextDay daysLater isOrigin shown
 a-sheet = refl
+
+-- what a sheet of two points answers
+abbrev asked : Board → Stamp → ℕ → Calendar
+asked b origin room = calendarOf (planOf pair) b origin (replicate room 0)
+
+-- 20 before 31, 31 before 51, 51 before 52; and a buffer that is just long enough
+in-order : (asked odd none 0 ≡ answer 20 0 0)
+    × (asked fresh none 0 ≡ answer 31 0 0)
+    × (asked over none 0 ≡ answer 51 0 0)
+    × (asked over evening 315 ≡ answer 52 0 0)
+    × (asked over evening 316 ≡ answer 0 0 316)
+unfolding calendarOf calendarText eventsOf eventText digits endedOf checkWith firstBadWith numberForWith lastKind howMany some firstThat sound each largest member membersOf withOf belowOf subsetOf from every passing ones markAll leap daysIn isDate nextDay daysLater isOrigin shown
+in-order = (refl, refl, refl, refl, refl)

@@ -21,6 +21,7 @@ use Rattle.dates.specs.declared.Stamp.{Stamp}
 use Rattle.moments.specs.Event.{eventLength}
 use Rattle.moments.proofs.Lengths.{event-long}
 use Rattle.calendar.specs.Calendars.{pondCode, momentOf, eventOf, eventsOf, heading, ending, calendarText, eventsLength, textLength}
+use Rattle.calendar.proofs.ACase.{a-sheet}
 
 module _ (rs : List Record) (b : Board) (origin : Stamp) where
   pub events-long : (n : ℕ) → length (eventsOf rs b origin n) ≡ eventsLength rs n

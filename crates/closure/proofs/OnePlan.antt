@@ -8,13 +8,15 @@ use native.Mathlib.Omega.{arith}
 use lib.Dec.{eqb·suc-zero}
 use lib.ListN.{length, getD}
 use borrow.Author.Tests.{leb-true, le-leb, eqb-false}
-use Rattle.plan.specs.APlan.{link, ordinary, wait, is, some, points, blank, gapOf, recordsOf}
+use Rattle.plan.specs.APlan.{link, ordinary, wait, is, some, points, watched, blank, gapOf, recordsOf}
 use Rattle.plan.specs.ReplyNumbers.{checkOf}
 use Rattle.plan.proofs.Accepted.{getD-some}
 use Rattle.records.specs.declared.Record.{Record}
 use Rattle.plan.specs.declared.Plan.{Plan}
 use Rattle.bounds.specs.Bounds.{boundKept}
+use Rattle.calls.proofs.Laws.{numbered-by}
 use Rattle.board.specs.Boards.{minute, inBounds, each, sound}
+use Rattle.board.specs.Calls.{earlier}
 use Rattle.board.specs.declared.Board.{Board}
 use Rattle.verdict.specs.Verdicts.{kept, firstBroken, endedOf, verdictOf}
 use Rattle.verdict.specs.declared.Verdict.{Verdict}
@@ -53,6 +55,18 @@ pub no-bounds : (b : Board) (rs : List Record) → hasSteps rs ≡ false → eac
 unfolding each
 no-bounds b [] z = refl
 no-bounds b (r ∷ rs) z = rw (first-no r rs z .0) (no-bounds b rs (rest-no r rs z))
+
+-- no link is out of order on any board
+no-order : (b : Board) (rs : List Record) → hasSteps rs ≡ false → each (earlier b) rs ≡ true
+unfolding each
+no-order b [] z = refl
+no-order b (r ∷ rs) z = rw (first-no r rs z .0) (no-order b rs (rest-no r rs z))
+
+-- no point is watched
+no-watched : (rs : List Record) → hasSteps rs ≡ false → (c : ℕ) → watched rs c ≡ false
+unfolding some
+no-watched [] z c = refl
+no-watched (r ∷ rs) z c = rw (first-no r rs z .0) (no-watched rs (rest-no r rs z) c)
 
 -- ---- minutes
 
@@ -131,4 +145,16 @@ module _ (p : Plan) (none : hasSteps (recordsOf p) ≡ false) (b : Board) where
 pub same-ended : (p q : Plan) → checkOf p .number ≡ 0 → checkOf q .number ≡ 0 → hasSteps (recordsOf p) ≡ false → hasSteps (recordsOf q) ≡ false
     → points (recordsOf q) ≡ points (recordsOf p) → (b : Board) → endedOf q b ≡ endedOf p b
 unfolding endedOf sound
-same-ended p q hp hq sp sq e b = rw (hp, hq, e, no-bounds b (recordsOf p) sp, no-bounds b (recordsOf q) sq) refl
+same-ended p q hp hq sp sq e b =
+    let same = numbered-by (watched (recordsOf q)) (watched (recordsOf p)) (b .done) (b .minutes) (b .calls)
+    (λ c l. no-watched (recordsOf q) sq c ∙ sym (no-watched (recordsOf p) sp c)) in
+    rw (
+      hp,
+      hq,
+      e,
+      no-bounds b (recordsOf p) sp,
+      no-bounds b (recordsOf q) sq,
+      no-order b (recordsOf p) sp,
+      no-order b (recordsOf q) sq,
+      same,
+    ) refl

@@ -1,5 +1,6 @@
 //! Draws what `desk` is asked: a verb with its words, and a standard input. Plans here, texts in `texts.rs`.
 
+use crate::calendars;
 use crate::damage;
 use crate::draw::Draw;
 use crate::events::MARK;
@@ -15,7 +16,7 @@ use oracle::plan_test::{self, Answer};
 use oracle::worst;
 
 /// The verbs that can be compared.
-pub const VERBS: [&str; 5] = ["test", "worst", "day", "import", "close"];
+pub const VERBS: [&str; 6] = ["test", "worst", "day", "import", "close", "calendar"];
 
 /// Numbers that reading a plan file gives.
 pub const READING: [u32; 12] = [1, 2, 3, 4, 5, 6, 7, 8, 9, 10, 11, 15];
@@ -44,6 +45,7 @@ fn kinds(verb: &str) -> usize {
     match verb {
         "import" => 1 + texts::KINDS,
         "close" => CLOSE,
+        "calendar" => 1 + calendars::KINDS,
         _ => PLANS,
     }
 }
@@ -73,6 +75,7 @@ fn of_kind(draw: &mut Draw, verb: &str, kind: usize, tour: u64) -> Vec<Ask> {
         (_, 0) => wrong_usage(draw, verb),
         ("import", kind) => texts::batch(draw, kind - 1),
         ("close", kind) => closing(draw, kind),
+        ("calendar", kind) => calendars::batch(draw, kind - 1),
         (_, kind) => about_plans(draw, verb, kind, tour),
     }
 }
@@ -85,33 +88,36 @@ fn wrong_usage(draw: &mut Draw, verb: &str) -> Vec<Ask> {
     let none = [&capital, &longer, &spaced, shorter, "", "0", "help", "--"];
     all.push(vec![draw.pick(&none)]);
     all.push(vec![draw.pick(&none), verb]);
+    // What is no number of 32 bits.
+    let number = [
+        "-1",
+        "-0",
+        "+1",
+        "",
+        " 1",
+        "1 ",
+        "1x",
+        "0x1",
+        "1.0",
+        "one",
+        "4294967296",
+        "4294967297",
+        "18446744073709551616",
+        "99999999999999999999999999",
+        "00004294967296",
+        "\u{0661}",
+        "1\n",
+        "\n1",
+    ];
     if verb == "day" {
-        let number = [
-            "-1",
-            "-0",
-            "+1",
-            "",
-            " 1",
-            "1 ",
-            "1x",
-            "0x1",
-            "1.0",
-            "one",
-            "4294967296",
-            "4294967297",
-            "18446744073709551616",
-            "99999999999999999999999999",
-            "00004294967296",
-            "\u{0661}",
-            "1\n",
-            "\n1",
-        ];
         all.push(vec![verb]);
         all.push(vec![verb, "4294967296"]);
         for _ in 0..3 {
             all.push(vec![verb, draw.pick(&number)]);
         }
         all.push(vec![verb, "0", draw.pick(&["0", "", "x"])]);
+    } else if verb == "calendar" {
+        all.extend(calendars::wrong_words(draw, &number));
     } else {
         all.push(vec![verb, draw.pick(&["0", "", "1", "x", "-", verb])]);
     }
@@ -810,6 +816,7 @@ fn own_cases(verb: &str) -> Vec<String> {
             "a cycle and a distance past the bound",
             "a mark",
         ],
+        "calendar" => return calendars::cases(),
         _ => return texts::cases(),
     };
     all.iter().map(|what| format!("{verb}: {what}")).collect()

@@ -3,6 +3,7 @@
 use crate::asks::{self, Ask, READING};
 use crate::count::Count;
 use crate::draw::Draw;
+use crate::icalendar;
 use crate::programs::{Shown, Way};
 use crate::texts;
 use std::io;
@@ -33,6 +34,8 @@ pub struct Found {
     pub way: Way,
     pub ours: Shown,
     pub theirs: Shown,
+    /// What is wrong with what ours said, where that can be told from it alone.
+    pub fault: Option<String>,
 }
 
 /// What a comparison brought.
@@ -60,6 +63,22 @@ fn plain(verbs: &[&str], shown: &Shown) -> Shown {
         shown.errors = b"the verbs".to_vec();
     }
     shown
+}
+
+/// What is wrong with what was said, where that can be told without the other program: a calendar is read again and held to
+/// the sheet.
+pub fn fault(words: &[String], input: &[u8], shown: &Shown) -> Option<String> {
+    let [verb, origin @ ..] = words else {
+        return None;
+    };
+    if verb != "calendar" || shown.ended != ENDINGS[0] {
+        return None;
+    }
+    let numbers: Option<Vec<i64>> = origin.iter().map(|word| word.parse().ok()).collect();
+    match numbers.and_then(|numbers| numbers.try_into().ok()) {
+        Some(origin) => icalendar::fault(input, origin, &shown.bytes),
+        None => Some("a calendar of words that are none".to_string()),
+    }
 }
 
 /// What came up in what was said of an ask.
@@ -119,6 +138,7 @@ pub fn expected(verbs: &[&str]) -> Vec<String> {
             "worst" => &["minute", "minute past projection 0", "13", "60"],
             "day" => &["file", "13", "60"],
             "close" => &["file", "61", "62", "63"],
+            "calendar" => &["file", "31", "51"],
             _ => &["file", "40", "41", "42", "43"],
         };
         let own = own.iter().map(|own| own.to_string());
@@ -217,7 +237,8 @@ fn work(worker: usize, shared: &Shared) -> io::Result<Option<Found>> {
             }
             let way = way(&mut draw, &ask);
             let (ours, theirs) = (shared.run)(worker, &ask, way)?;
-            if differ(shared.verbs, &ours, &theirs) {
+            let fault = fault(&ask.words, &ask.input, &ours);
+            if fault.is_some() || differ(shared.verbs, &ours, &theirs) {
                 return Ok(Some(Found {
                     batch,
                     k,
@@ -225,6 +246,7 @@ fn work(worker: usize, shared: &Shared) -> io::Result<Option<Found>> {
                     way,
                     ours,
                     theirs,
+                    fault,
                 }));
             }
             shared.asks.fetch_add(1, Ordering::Relaxed);

@@ -1,11 +1,13 @@
 //! What the comparison and the games share: drawing of plans, events and whole inputs, running of programs, counting.
 
 pub mod asks;
+pub mod calendars;
 pub mod count;
 pub mod damage;
 pub mod desk;
 pub mod draw;
 pub mod events;
+pub mod icalendar;
 pub mod inputs;
 pub mod links;
 pub mod plans;

@@ -6,11 +6,14 @@ use compare::links;
 use compare::programs::{self, Shown, Way};
 use compare::smaller;
 use oracle::board::{self, Board, Outcome, Place};
+use oracle::calendar::{self, calendar, Origin};
 use oracle::desk::{wrong_usage, Said, Verb};
 use oracle::event;
 use oracle::import::{fields, import, lines};
 use oracle::plan::{self, Link, Ordinary, Plan, BOUND, OLD_ORDINARIES};
 use oracle::plan_test::{self, Answer, Fault, Odometer};
+use oracle::text;
+use oracle::verdict::{self, Verdict};
 use oracle::worst::{self, Worst};
 use oracle::{close, Refusal};
 use std::cell::RefCell;
@@ -60,10 +63,10 @@ fn the_same_agree_and_all_comes_up() {
         asks
     };
     let asks = all_comes_up(&asks::VERBS, 1);
-    assert!((500..1_000).contains(&asks), "{asks}");
+    assert!((700..1_500).contains(&asks), "{asks}");
     for seed in 2..8 {
         // A verb left out is not waited for.
-        all_comes_up(&["import", "close"], seed);
+        all_comes_up(&["import", "close", "calendar"], seed);
     }
 }
 
@@ -413,6 +416,325 @@ const CLOSERS: [(&str, Closer); 11] = [
         Ok(made)
     }),
 ];
+
+/// The plan and the board of a sheet, or the plan's refusal.
+fn sheet(input: &[u8]) -> Result<(Plan, Board), String> {
+    let bad = |(number, record)| format!("plan {number} {record}");
+    text::board_after(input).unwrap().map_err(bad)
+}
+
+/// The calendar of a sheet, or its refusal.
+fn calendar_of(input: &[u8], origin: [u32; 5]) -> Result<String, String> {
+    let (plan, board) = sheet(input)?;
+    let text = calendar(&plan, &board, &Origin::of(origin));
+    text.map_err(|number| format!("calendar {number}"))
+}
+
+/// The calendar where months have other last days, and hours and minutes may be any up to these.
+fn calendar_with(
+    input: &[u8],
+    origin: [u32; 5],
+    years: std::ops::RangeInclusive<u32>,
+    last_day: fn(u32, u32) -> u32,
+    of_day: [u32; 2],
+) -> Result<String, String> {
+    let (plan, board) = sheet(input)?;
+    if !board::all_done(&plan, &board) {
+        return Err("calendar 31".to_string());
+    }
+    let [year, month, day, hour, minute] = origin;
+    let is_one = years.contains(&year)
+        && (1..=12).contains(&month)
+        && (1..=last_day(year, month)).contains(&day)
+        && hour <= of_day[0]
+        && minute <= of_day[1];
+    if !is_one {
+        return Err("calendar 51".to_string());
+    }
+    Ok(calendar::text(&plan, &board, |minutes| {
+        let [mut year, mut month, mut day] = [year, month, day];
+        let mut left = 60 * hour + minute + minutes;
+        while left >= 1_440 {
+            left -= 1_440;
+            day += 1;
+            if day > last_day(year, month) {
+                (month, day) = (month + 1, 1);
+            }
+            if month > 12 {
+                (year, month) = (year + 1, 1);
+            }
+        }
+        let (hour, minute) = (left / 60, left % 60);
+        format!("{year:04}{month:02}{day:02}T{hour:02}{minute:02}00Z")
+    }))
+}
+
+fn last_day(year: u32, month: u32) -> u32 {
+    match month {
+        4 | 6 | 9 | 11 => 30,
+        2 if year % 400 == 0 || year % 4 == 0 && year % 100 != 0 => 29,
+        2 => 28,
+        _ => 31,
+    }
+}
+
+const YEARS: std::ops::RangeInclusive<u32> = 1970..=2099;
+
+type Calendar = fn(&[u8], [u32; 5]) -> Result<String, String>;
+
+const CALENDARS: [(&str, Calendar); 30] = [
+    ("2100 is a leap year", |input, origin| {
+        let days = |year, month| match (year, month) {
+            (2100, 2) => 29,
+            _ => last_day(year, month),
+        };
+        calendar_with(input, origin, YEARS, days, [23, 59])
+    }),
+    ("2000 is no leap year", |input, origin| {
+        let days = |year, month| match (year, month) {
+            (2000, 2) => 28,
+            _ => last_day(year, month),
+        };
+        calendar_with(input, origin, YEARS, days, [23, 59])
+    }),
+    ("no leap days", |input, origin| {
+        let days = |_, month| last_day(2023, month);
+        calendar_with(input, origin, YEARS, days, [23, 59])
+    }),
+    ("a leap day each year", |input, origin| {
+        let days = |_, month| last_day(2024, month);
+        calendar_with(input, origin, YEARS, days, [23, 59])
+    }),
+    ("September has 31 days", |input, origin| {
+        let days = |year, month| last_day(year, month) + u32::from(month == 9);
+        calendar_with(input, origin, YEARS, days, [23, 59])
+    }),
+    ("July has 30 days", |input, origin| {
+        let days = |year, month| last_day(year, month) - u32::from(month == 7);
+        calendar_with(input, origin, YEARS, days, [23, 59])
+    }),
+    ("1969 is taken", |input, origin| {
+        calendar_with(input, origin, 1969..=2099, last_day, [23, 59])
+    }),
+    ("2100 is taken", |input, origin| {
+        calendar_with(input, origin, 1970..=2100, last_day, [23, 59])
+    }),
+    ("year 0 is taken", |input, origin| {
+        calendar_with(input, origin, 0..=2099, last_day, [23, 59])
+    }),
+    ("hour 24 is taken", |input, origin| {
+        calendar_with(input, origin, YEARS, last_day, [24, 59])
+    }),
+    ("minute 60 is taken", |input, origin| {
+        calendar_with(input, origin, YEARS, last_day, [23, 60])
+    }),
+    ("numbers are kept in 16 bits", |input, origin| {
+        calendar_of(input, origin.map(|number| number & 0xffff))
+    }),
+    ("all but the year are kept in 8 bits", |input, origin| {
+        let [year, rest @ ..] = origin;
+        let [month, day, hour, minute] = rest.map(|number| number & 255);
+        calendar_of(input, [year, month, day, hour, minute])
+    }),
+    ("51 before 31", |input, origin| {
+        match calendar_of(input, origin) {
+            Err(said) if said == "calendar 31" && !Origin::of(origin).is_one() => {
+                Err("calendar 51".to_string())
+            }
+            other => other,
+        }
+    }),
+    ("51 where it ends past 2099", |input, origin| {
+        let text = calendar_of(input, origin)?;
+        match text.contains("DTSTART:21") {
+            true => Err("calendar 51".to_string()),
+            false => Ok(text),
+        }
+    }),
+    (
+        "51 before the plan's own number",
+        |input, origin| match calendar_of(input, origin) {
+            Err(_) if !Origin::of(origin).is_one() => Err("calendar 51".to_string()),
+            other => other,
+        },
+    ),
+    ("LF alone", |input, origin| {
+        Ok(calendar_of(input, origin)?.replace('\r', ""))
+    }),
+    ("local time", |input, origin| {
+        Ok(calendar_of(input, origin)?.replace("00Z", "00"))
+    }),
+    ("the point's number alone is the UID", |input, origin| {
+        let text = calendar_of(input, origin)?;
+        let line = |line: &str| match line.strip_prefix("UID:") {
+            Some(uid) => format!("UID:{}\r\n", uid.split('-').next().unwrap_or("")),
+            None => format!("{line}\r\n"),
+        };
+        Ok(text.lines().map(line).collect())
+    }),
+    ("no pond is shown as nothing", |input, origin| {
+        let text = calendar_of(input, origin)?;
+        Ok(text.replace(" 0\r\nEND", "\r\nEND"))
+    }),
+    ("pond codes are signed", |input, origin| {
+        let text = calendar_of(input, origin)?;
+        Ok(text.replace(" 4294967295\r", " -1\r"))
+    }),
+    ("PRODID first", |input, origin| {
+        let [version, product] = ["VERSION:2.0\r\n", "PRODID:-//Ponds//Sheets//EN\r\n"];
+        let text = calendar_of(input, origin)?;
+        Ok(text.replace(
+            &format!("{version}{product}"),
+            &format!("{product}{version}"),
+        ))
+    }),
+    ("DTSTAMP is minute 0", |input, origin| {
+        let text = calendar_of(input, origin)?;
+        let first = Origin::of(origin).stamp(0);
+        let line = |line: &str| match line.strip_prefix("DTSTAMP:") {
+            Some(_) => format!("DTSTAMP:{first}\r\n"),
+            None => format!("{line}\r\n"),
+        };
+        Ok(text.lines().map(line).collect())
+    }),
+    ("events in order of minutes", |input, origin| {
+        let text = calendar_of(input, origin)?;
+        let (plan, board) = sheet(input)?;
+        let mut parts: Vec<&str> = text.split("BEGIN:VEVENT").collect();
+        let head = parts.remove(0).to_string();
+        let end = "END:VCALENDAR\r\n";
+        let mut order: Vec<usize> = (0..plan.points()).collect();
+        order.sort_by_key(|point| board.minutes[*point]);
+        let events = order
+            .iter()
+            .map(|point| format!("BEGIN:VEVENT{}", parts[*point].trim_end_matches(end)));
+        Ok(head + &events.collect::<String>() + end)
+    }),
+    ("a broken sheet is not finished", |input, origin| {
+        let text = calendar_of(input, origin)?;
+        let (plan, board) = sheet(input)?;
+        match verdict::verdict(&plan, &board) {
+            Ok(Verdict::Kept) => Ok(text),
+            _ => Err("calendar 31".to_string()),
+        }
+    }),
+    ("a refused event ends it", |input, origin| {
+        let mark = input.chunks(16).position(|record| record == [255; 16]);
+        let Some(mark) = mark else {
+            return calendar_of(input, origin);
+        };
+        let (plan, _) = sheet(&input[..16 * (mark + 1)])?;
+        let mut at = Board::fresh();
+        let mut end = 16 * (mark + 1);
+        for record in input[end..].chunks_exact(16) {
+            let (number, after) = event::take(&plan, &at, record);
+            if number != 0 {
+                break;
+            }
+            (at, end) = (after, end + 16);
+        }
+        calendar_of(&input[..end], origin)
+    }),
+    ("an unfinished last record is filled up", |input, origin| {
+        let mut input = input.to_vec();
+        if input.chunks(16).any(|record| record == [255; 16]) {
+            input.resize(input.len().div_ceil(16) * 16, 0);
+        }
+        calendar_of(&input, origin)
+    }),
+    ("the last mark ends the plan", |input, origin| {
+        let all: Vec<&[u8]> = input.chunks(16).collect();
+        let mark = all.iter().rposition(|record| *record == [255; 16]);
+        let first = all.iter().position(|record| *record == [255; 16]);
+        match (first, mark) {
+            (Some(first), Some(mark)) => {
+                let input = [&input[..16 * first], &input[16 * mark..]].concat();
+                calendar_of(&input, origin)
+            }
+            _ => calendar_of(input, origin),
+        }
+    }),
+    (
+        "a sheet that is not finished, as far as it goes",
+        |input, origin| {
+            let (plan, board) = sheet(input)?;
+            match calendar_of(input, origin) {
+                Err(said) if said == "calendar 31" && Origin::of(origin).is_one() => {
+                    let stamp = |minute| Origin::of(origin).stamp(minute);
+                    Ok(calendar::text(&plan, &board, stamp))
+                }
+                other => other,
+            }
+        },
+    ),
+    ("long sheets end at 1,000,000", |input, origin| {
+        let text = calendar_of(input, origin)?;
+        let (plan, mut board) = sheet(input)?;
+        if board.clock < 1_000_000 {
+            return Ok(text);
+        }
+        for minute in &mut board.minutes {
+            *minute = (*minute).min(1_000_000);
+        }
+        let stamp = |minute| Origin::of(origin).stamp(minute);
+        Ok(calendar::text(&plan, &board, stamp))
+    }),
+];
+
+#[test]
+fn wrong_calendars_are_found() {
+    for (what, wrong) in CALENDARS {
+        found("calendar", what, &|ask| {
+            let words: Vec<&str> = ask.words.iter().map(String::as_str).collect();
+            let Some(Verb::Calendar(Origin { date, hour, minute })) = Verb::of(&words) else {
+                return right(ask);
+            };
+            let origin = [date.year, date.month, date.day, hour, minute];
+            file(wrong(&ask.input, origin).map(String::into_bytes))
+        });
+    }
+    found("calendar", "zeros in front are refused", &|ask| {
+        let zero = |word: &String| word.len() > 1 && word.starts_with('0');
+        match &ask.words[..] {
+            [_, origin @ ..] if origin.iter().any(zero) => wrong_usage(),
+            _ => right(ask),
+        }
+    });
+    found("calendar", "a number is taken modulo 2 to the 32", &|ask| {
+        let words: Vec<&str> = ask
+            .words
+            .iter()
+            .map(|word| if word == "4294967296" { "0" } else { word })
+            .collect();
+        Verb::of(&words).map_or_else(wrong_usage, |verb| verb.said(&ask.input))
+    });
+    found(
+        "calendar",
+        "a number too large is no date",
+        &|ask| match &ask.words[..] {
+            [verb, _, _, _, _, _] if verb == "calendar" && right(ask).status == 2 => {
+                file(Err("calendar 51".to_string()))
+            }
+            _ => right(ask),
+        },
+    );
+}
+
+/// A calendar that both programs write is read again: what is wrong with it is found even so.
+#[test]
+fn faults_of_both_are_found() {
+    let run = |_: usize, ask: &Ask, _: Way| {
+        let mut said = right(ask);
+        if said.status == 0 {
+            said.output = replaced(&said.output, b"DTSTAMP:2", b"DTSTAMP:1");
+        }
+        Ok((shown(said.clone()), shown(said)))
+    };
+    let limits = limits(&["calendar"], 1);
+    let compared = desk::compare(&run, &["calendar"], 1, limits, 2).unwrap();
+    let fault = compared.found.and_then(|found| found.fault);
+    assert!(fault.is_some_and(|fault| fault.contains("another minute")));
+}
 
 /// The plan of an input, or its refusal.
 fn read(input: &[u8]) -> Result<Plan, String> {
@@ -911,14 +1233,17 @@ fn wrong_readers_and_outputs_are_found() {
             said.output.pop();
             said
         });
+        let numbers = match verb {
+            "day" => 1,
+            "calendar" => 5,
+            _ => 0,
+        };
         found(
             verb,
             "too many words are let be",
             &|ask| match &ask.words[..] {
-                [first, rest @ ..]
-                    if first == verb && rest.len() > 1 - usize::from(verb != "day") =>
-                {
-                    let wanted = 1 + usize::from(verb == "day");
+                [first, rest @ ..] if first == verb && rest.len() > numbers => {
+                    let wanted = 1 + numbers;
                     let words: Vec<&str> = ask.words[..wanted].iter().map(String::as_str).collect();
                     Verb::of(&words).map_or_else(wrong_usage, |verb| verb.said(&ask.input))
                 }

@@ -3,6 +3,7 @@
 
 pub mod board;
 pub mod by_value;
+pub mod calendar;
 pub mod close;
 pub mod desk;
 pub mod event;

@@ -3,6 +3,7 @@
 mod common;
 
 use common::*;
+use oracle::calendar::Origin;
 use oracle::desk::Verb;
 use std::io::Write;
 use std::process::{Command, Stdio};
@@ -57,7 +58,10 @@ fn words() {
     }
     assert_eq!(of(&["import"]), Some(Verb::Import));
     assert_eq!(of(&["close"]), Some(Verb::Close));
-    let none: [&[&str]; 24] = [
+    let origin = ["calendar", "2024", "02", "029", "0", "4294967295"];
+    let numbers = Origin::of([2024, 2, 29, 0, u32::MAX]);
+    assert_eq!(of(&origin), Some(Verb::Calendar(numbers)));
+    let none: [&[&str]; 30] = [
         &[],
         &[""],
         &["Test"],
@@ -82,13 +86,19 @@ fn words() {
         &["day", "0x1"],
         &["day", "1", "1"],
         &["day", "\u{0661}"],
+        &["calendar"],
+        &["calendar", "2024", "1", "1", "0"],
+        &["calendar", "2024", "1", "1", "0", "0", "0"],
+        &["calendar", "2024", "1", "1", "0", "4294967296"],
+        &["calendar", "2024", "-1", "1", "0", "0"],
+        &["calendar", "2024", "", "1", "0", "0"],
     ];
     let file = haul().to_bytes();
     for words in none {
         assert_eq!(of(words), None);
         let (errors, status) = refused(words, &file);
         assert_eq!((errors.lines().count(), status), (1, 2), "{words:?}");
-        for verb in ["test", "worst", "day", "import", "close"] {
+        for verb in ["test", "worst", "day", "import", "close", "calendar"] {
             assert!(errors.contains(verb) && errors.ends_with('\n'));
         }
     }
@@ -175,4 +185,40 @@ fn the_made_plan() {
     let far = file(&[ordinary(0, 100_000, 1), ordinary(1, 1, 2)]);
     assert_eq!(close(&far), said("close 63\n", 1));
     assert_eq!(close(&far[16..]), said("plan 8 0\n", 1));
+}
+
+#[test]
+fn the_calendar() {
+    let words = ["calendar", "2024", "2", "29", "23", "59"];
+    let sheet = |events: &[u8]| [&haul().to_bytes()[..], &[255; 16], events].concat();
+    let day = [event(0, 0, &[]), event(12, 1, &[]), event(47, 3, &[2])];
+    let (text, errors, status) = desk(&words, &sheet(&day.concat()));
+    assert_eq!((&errors[..], status), ("", 0));
+    let text = String::from_utf8(text).unwrap();
+    assert!(text.starts_with("BEGIN:VCALENDAR\r\nVERSION:2.0\r\nPRODID:-//Ponds//Sheets//EN\r\n"));
+    assert!(text.contains("\r\nUID:3-20240301T004600Z\r\nDTSTAMP:20240301T004600Z\r\n"));
+    // Refused events and an unfinished last record are left aside.
+    let refused_too = [&day.concat()[..], &[255; 16], &day[0], &day[1][..15]].concat();
+    assert_eq!(desk(&words, &sheet(&refused_too)).0, text.as_bytes());
+    let calendar = |words: &[&str], input: &[u8]| refused(words, input);
+    assert_eq!(
+        calendar(&words, &sheet(&day[..2].concat())),
+        said("calendar 31\n", 1)
+    );
+    // Without the mark there are no events.
+    assert_eq!(
+        calendar(&words, &haul().to_bytes()),
+        said("calendar 31\n", 1)
+    );
+    let none = ["calendar", "2023", "2", "29", "23", "59"];
+    assert_eq!(
+        calendar(&none, &sheet(&day.concat())),
+        said("calendar 51\n", 1)
+    );
+    assert_eq!(calendar(&none, &sheet(&[])), said("calendar 31\n", 1));
+    assert_eq!(calendar(&none, &[255; 32]), said("plan 1 0\n", 1));
+    assert_eq!(
+        calendar(&none, &haul().to_bytes()[1..]),
+        said("plan 2 0\n", 1)
+    );
 }

@@ -129,7 +129,8 @@ fn tell(both: &Both, seed: u64, found: &Found) -> io::Result<()> {
     );
     let differ = |way: Way, input: &[u8]| {
         let (ours, theirs) = both.run(0, &ask.words, input, way)?;
-        Ok(desk::differ(&both.verbs, &ours, &theirs))
+        let fault = desk::fault(&ask.words, input, &ours);
+        Ok(fault.is_some() || desk::differ(&both.verbs, &ours, &theirs))
     };
     // Read from a file is the simplest way to see it again.
     let way = if differ(Way::File, &ask.input)? {
@@ -151,6 +152,9 @@ fn tell(both: &Both, seed: u64, found: &Found) -> io::Result<()> {
         small.len()
     );
     let (ours, theirs) = both.run(0, &ask.words, &small, way)?;
+    if let Some(fault) = desk::fault(&ask.words, &small, &ours) {
+        println!("what ours says is wrong by itself: {fault}");
+    }
     show("ours", &ours);
     show("the independent program", &theirs);
     let quoted: Vec<String> = ask.words.iter().map(|word| format!("'{word}'")).collect();

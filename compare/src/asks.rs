@@ -5,6 +5,7 @@ use crate::damage;
 use crate::draw::Draw;
 use crate::events::MARK;
 use crate::inputs;
+use crate::lighters;
 use crate::links;
 use crate::plans::{self, Sizes, FULL};
 use crate::texts;
@@ -16,7 +17,9 @@ use oracle::plan_test::{self, Answer};
 use oracle::worst;
 
 /// The verbs that can be compared.
-pub const VERBS: [&str; 6] = ["test", "worst", "day", "import", "close", "calendar"];
+pub const VERBS: [&str; 7] = [
+    "test", "worst", "day", "import", "close", "calendar", "lighter",
+];
 
 /// Numbers that reading a plan file gives.
 pub const READING: [u32; 12] = [1, 2, 3, 4, 5, 6, 7, 8, 9, 10, 11, 15];
@@ -46,6 +49,7 @@ fn kinds(verb: &str) -> usize {
         "import" => 1 + texts::KINDS,
         "close" => CLOSE,
         "calendar" => 1 + calendars::KINDS,
+        "lighter" => 1 + lighters::KINDS,
         _ => PLANS,
     }
 }
@@ -76,6 +80,7 @@ fn of_kind(draw: &mut Draw, verb: &str, kind: usize, tour: u64) -> Vec<Ask> {
         ("import", kind) => texts::batch(draw, kind - 1),
         ("close", kind) => closing(draw, kind),
         ("calendar", kind) => calendars::batch(draw, kind - 1),
+        ("lighter", kind) => lighters::batch(draw, kind - 1),
         (_, kind) => about_plans(draw, verb, kind, tour),
     }
 }
@@ -209,7 +214,7 @@ fn one_too_many(draw: &mut Draw) -> Vec<u8> {
 }
 
 /// A file for each number that reading gives.
-fn refusals(draw: &mut Draw, verb: &str) -> Vec<Ask> {
+pub fn refusals(draw: &mut Draw, verb: &str) -> Vec<Ask> {
     let mut asks = Vec::new();
     for number in READING {
         let file = refused(draw, number);
@@ -817,6 +822,7 @@ fn own_cases(verb: &str) -> Vec<String> {
             "a mark",
         ],
         "calendar" => return calendars::cases(),
+        "lighter" => return lighters::cases(),
         _ => return texts::cases(),
     };
     all.iter().map(|what| format!("{verb}: {what}")).collect()

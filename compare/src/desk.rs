@@ -87,6 +87,9 @@ fn keys(ask: &Ask, shown: &Shown) -> Vec<String> {
     if shown.ended == ENDINGS[2] {
         return vec!["wrong usage".to_string()];
     }
+    if verb == "lighter" && shown.ended == ENDINGS[0] {
+        return vec![dropped(&shown.errors)];
+    }
     let file = !matches!(verb, "test" | "worst");
     if file && shown.ended == ENDINGS[0] && shown.errors.is_empty() {
         return vec![format!("{verb} file")];
@@ -121,6 +124,20 @@ fn keys(ask: &Ask, shown: &Shown) -> Vec<String> {
     vec![format!("unknown answer to {verb}: {line:?}")]
 }
 
+/// What came up in the lines about the records that went.
+fn dropped(errors: &[u8]) -> String {
+    let text = String::from_utf8_lossy(errors);
+    let number = |line: &str| line.strip_prefix("dropped ")?.parse::<u32>().ok();
+    let whole = text.is_empty() || text.ends_with('\n');
+    if !whole || text.lines().any(|line| number(line).is_none()) {
+        return format!("unknown lines of lighter: {text:?}");
+    }
+    match text.is_empty() {
+        true => "lighter dropped none".to_string(),
+        false => "lighter dropped some".to_string(),
+    }
+}
+
 /// What must come up for these verbs: what is said, and the cases.
 pub fn expected(verbs: &[&str]) -> Vec<String> {
     let mut all = vec!["wrong usage".to_string()];
@@ -139,6 +156,7 @@ pub fn expected(verbs: &[&str]) -> Vec<String> {
             "day" => &["file", "13", "60"],
             "close" => &["file", "61", "62", "63"],
             "calendar" => &["file", "31", "51"],
+            "lighter" => &["dropped none", "dropped some", "13", "60"],
             _ => &["file", "40", "41", "42", "43"],
         };
         let own = own.iter().map(|own| own.to_string());

@@ -9,6 +9,7 @@ pub mod draw;
 pub mod events;
 pub mod icalendar;
 pub mod inputs;
+pub mod lighters;
 pub mod links;
 pub mod plans;
 pub mod player;

@@ -10,6 +10,7 @@ use oracle::calendar::{self, calendar, Origin};
 use oracle::desk::{wrong_usage, Said, Verb};
 use oracle::event;
 use oracle::import::{fields, import, lines};
+use oracle::lighter::{lighter, passes, tables, without, Lighter};
 use oracle::plan::{self, Link, Ordinary, Plan, BOUND, OLD_ORDINARIES};
 use oracle::plan_test::{self, Answer, Fault, Odometer};
 use oracle::text;
@@ -66,7 +67,7 @@ fn the_same_agree_and_all_comes_up() {
     assert!((700..1_500).contains(&asks), "{asks}");
     for seed in 2..8 {
         // A verb left out is not waited for.
-        all_comes_up(&["import", "close", "calendar"], seed);
+        all_comes_up(&["import", "close", "calendar", "lighter"], seed);
     }
 }
 
@@ -756,6 +757,183 @@ fn wrong_closings_are_found() {
     }
 }
 
+/// Goes through the ordinary records in this order and leaves out those that `goes` lets go, from the plan so far and without it.
+fn lightened(
+    plan: &Plan,
+    order: impl Iterator<Item = usize>,
+    goes: impl Fn(&Plan, &Plan) -> bool,
+) -> Result<Lighter, u32> {
+    lighter(plan)?;
+    let kept = |gone: &[usize]| {
+        let all = plan.ordinary.iter().enumerate();
+        let left = all.filter(|(place, _)| !gone.contains(place));
+        Plan {
+            ordinary: left.map(|(_, one)| *one).collect(),
+            ..plan.clone()
+        }
+    };
+    let mut gone = Vec::new();
+    for place in order {
+        let before = kept(&gone);
+        gone.push(place);
+        if !goes(&before, &kept(&gone)) {
+            gone.pop();
+        }
+    }
+    gone.sort_unstable();
+    let first = plan.points() + plan.links.len();
+    Ok(Lighter {
+        plan: kept(&gone),
+        dropped: gone.iter().map(|place| first + place).collect(),
+    })
+}
+
+fn same_distances(a: &Plan, b: &Plan) -> bool {
+    tables(a).eq(tables(b))
+}
+
+type Lightener = fn(&Plan) -> Result<Lighter, u32>;
+
+const LIGHTERS: [(&str, Lightener); 15] = [
+    ("the test is not asked", |plan| {
+        lightened(plan, 0..plan.ordinary.len(), same_distances)
+    }),
+    ("distances are not asked", |plan| {
+        lightened(plan, 0..plan.ordinary.len(), |_, less| passes(less))
+    }),
+    ("distances of the first projection alone", |plan| {
+        lightened(plan, 0..plan.ordinary.len(), |before, less| {
+            passes(less) && tables(before).next() == tables(less).next()
+        })
+    }),
+    ("distances of the last projection alone", |plan| {
+        lightened(plan, 0..plan.ordinary.len(), |before, less| {
+            passes(less) && tables(before).last() == tables(less).last()
+        })
+    }),
+    ("the test of the first projection alone", |plan| {
+        lightened(plan, 0..plan.ordinary.len(), |before, less| {
+            let first: Vec<i64> = less.links.iter().map(|link| link.x).collect();
+            same_distances(before, less) && right_fault(less, &first).is_none()
+        })
+    }),
+    ("in the order from last to first", |plan| {
+        lightened(plan, (0..plan.ordinary.len()).rev(), |before, less| {
+            passes(less) && same_distances(before, less)
+        })
+    }),
+    ("each as if no other went", |plan| {
+        let right = lighter(plan)?;
+        let mut light = right.clone();
+        let first = plan.points() + plan.links.len();
+        light.dropped = (0..plan.ordinary.len())
+            .filter(|place| {
+                let less = without(plan, *place);
+                passes(&less) && same_distances(plan, &less)
+            })
+            .map(|place| first + place)
+            .collect();
+        let all = plan.ordinary.iter().enumerate();
+        let left = all.filter(|(place, _)| !light.dropped.contains(&(first + place)));
+        light.plan.ordinary = left.map(|(_, one)| *one).collect();
+        Ok(light)
+    }),
+    ("it stops at the first that stays", |plan| {
+        let mut light = lighter(plan)?;
+        let first = plan.points() + plan.links.len();
+        let go = (first..)
+            .zip(&light.dropped)
+            .take_while(|(number, dropped)| number == *dropped)
+            .count();
+        light.dropped.truncate(go);
+        light.plan.ordinary = plan.ordinary[go..].to_vec();
+        Ok(light)
+    }),
+    ("numbers in the plan so far", |plan| {
+        let mut light = lighter(plan)?;
+        for (gone, number) in light.dropped.iter_mut().enumerate() {
+            *number -= gone;
+        }
+        Ok(light)
+    }),
+    ("numbers among ordinary records", |plan| {
+        let mut light = lighter(plan)?;
+        for number in &mut light.dropped {
+            *number -= plan.points() + plan.links.len();
+        }
+        Ok(light)
+    }),
+    ("the last first in the list", |plan| {
+        let mut light = lighter(plan)?;
+        light.dropped.reverse();
+        Ok(light)
+    }),
+    ("60 before 13", |plan| lighter(plan).map_err(|_| 60)),
+    ("a plan that does not pass stays", |plan| {
+        match lighter(plan) {
+            Err(60) => Ok(Lighter {
+                plan: plan.clone(),
+                dropped: Vec::new(),
+            }),
+            other => other,
+        }
+    }),
+    ("pond codes are dropped", |plan| {
+        let mut light = lighter(plan)?;
+        light.plan.ponds.fill(0);
+        Ok(light)
+    }),
+    ("waits go too", |plan| {
+        let mut light = lighter(plan)?;
+        for place in (0..light.plan.waits.len()).rev() {
+            let mut less = light.plan.clone();
+            less.waits.remove(place);
+            if passes(&less) && same_distances(&light.plan, &less) {
+                light.plan = less;
+            }
+        }
+        Ok(light)
+    }),
+];
+
+#[test]
+fn wrong_lighter_plans_are_found() {
+    for (what, lightener) in LIGHTERS {
+        found("lighter", what, &|ask| {
+            of_verb("lighter", ask, |input| {
+                let light = read(input).and_then(|plan| {
+                    lightener(&plan).map_err(|number| format!("lighter {number}"))
+                });
+                match light {
+                    Err(refusal) => file(Err(refusal)),
+                    Ok(Lighter { plan, dropped }) => Said {
+                        output: plan.to_bytes(),
+                        errors: dropped
+                            .iter()
+                            .flat_map(|number| format!("dropped {number}\n").into_bytes())
+                            .collect(),
+                        status: 0,
+                    },
+                }
+            })
+        });
+    }
+    found("lighter", "what went is not said", &|ask| {
+        let mut said = right(ask);
+        if said.status == 0 {
+            said.errors.clear();
+        }
+        said
+    });
+    found("lighter", "what went is said with status 1", &|ask| {
+        let mut said = right(ask);
+        if said.status == 0 && !said.errors.is_empty() {
+            said.status = 1;
+        }
+        said
+    });
+}
+
 /// The finishing minutes of all projections, of those that `counts` lets count.
 fn minutes(plan: &Plan, counts: impl Fn(&[i64]) -> bool) -> Vec<(u32, u32)> {
     let all = (0..).zip(Odometer::new(plan)).filter(|(_, p)| counts(p));
@@ -1157,7 +1335,7 @@ fn wrong_readers_and_outputs_are_found() {
             input[..mark.map_or(input.len(), |mark| 16 * mark)].to_vec()
         }),
     ];
-    let verbs = ["test", "worst", "day", "close"];
+    let verbs = ["test", "worst", "day", "close", "lighter"];
     for verb in verbs {
         for (what, changed) in inputs {
             found(verb, what, &|ask| {

@@ -3,6 +3,7 @@
 use crate::calendar::{self, Origin};
 use crate::close;
 use crate::import;
+use crate::lighter::{self, Lighter};
 use crate::plan::{self, Plan};
 use crate::text::{self, MARK};
 use crate::worst::{self, Worst};
@@ -25,11 +26,12 @@ pub enum Verb {
     Import,
     Close,
     Calendar(Origin),
+    Lighter,
 }
 
 /// The line about wrong usage.
 const USAGE: &str = "usage: oracle-desk test | worst | day PROJECTION | import | close | \
-                     calendar YEAR MONTH DAY HOUR MINUTE";
+                     calendar YEAR MONTH DAY HOUR MINUTE | lighter";
 
 impl Verb {
     /// None where there is no such verb, or the words are not its words.
@@ -45,6 +47,7 @@ impl Verb {
                 let numbers: [u32; 5] = numbers?.try_into().ok()?;
                 Some(Verb::Calendar(Origin::of(numbers)))
             }
+            ["lighter"] => Some(Verb::Lighter),
             _ => None,
         }
     }
@@ -58,6 +61,7 @@ impl Verb {
             Verb::Import => file(import(input)),
             Verb::Close => file(close(input)),
             Verb::Calendar(origin) => file(calendar(input, &origin)),
+            Verb::Lighter => lighter(input),
         }
     }
 }
@@ -156,4 +160,21 @@ fn calendar(input: &[u8], origin: &Origin) -> Result<Vec<u8>, String> {
     let text = calendar::calendar(&plan, &board, origin);
     let text = text.map_err(|number| format!("calendar {number}"))?;
     Ok(text.into_bytes())
+}
+
+/// The file of the lighter plan, and on standard error a line for each record that went.
+fn lighter(file_in: &[u8]) -> Said {
+    let light = plan(file_in)
+        .and_then(|plan| lighter::lighter(&plan).map_err(|number| format!("lighter {number}")));
+    match light {
+        Ok(Lighter { plan, dropped }) => Said {
+            output: plan.to_bytes(),
+            errors: dropped
+                .iter()
+                .flat_map(|number| line(&format!("dropped {number}")))
+                .collect(),
+            status: 0,
+        },
+        Err(text) => file(Err(text)),
+    }
 }

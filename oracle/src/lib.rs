@@ -8,6 +8,7 @@ pub mod close;
 pub mod desk;
 pub mod event;
 pub mod import;
+pub mod lighter;
 pub mod plan;
 pub mod plan_test;
 pub mod probe;

@@ -61,7 +61,8 @@ fn words() {
     let origin = ["calendar", "2024", "02", "029", "0", "4294967295"];
     let numbers = Origin::of([2024, 2, 29, 0, u32::MAX]);
     assert_eq!(of(&origin), Some(Verb::Calendar(numbers)));
-    let none: [&[&str]; 30] = [
+    assert_eq!(of(&["lighter"]), Some(Verb::Lighter));
+    let none: [&[&str]; 32] = [
         &[],
         &[""],
         &["Test"],
@@ -86,6 +87,8 @@ fn words() {
         &["day", "0x1"],
         &["day", "1", "1"],
         &["day", "\u{0661}"],
+        &["lighter", "0"],
+        &["Lighter"],
         &["calendar"],
         &["calendar", "2024", "1", "1", "0"],
         &["calendar", "2024", "1", "1", "0", "0", "0"],
@@ -98,7 +101,10 @@ fn words() {
         assert_eq!(of(words), None);
         let (errors, status) = refused(words, &file);
         assert_eq!((errors.lines().count(), status), (1, 2), "{words:?}");
-        for verb in ["test", "worst", "day", "import", "close", "calendar"] {
+        let verbs = [
+            "test", "worst", "day", "import", "close", "calendar", "lighter",
+        ];
+        for verb in verbs {
             assert!(errors.contains(verb) && errors.ends_with('\n'));
         }
     }
@@ -221,4 +227,31 @@ fn the_calendar() {
         calendar(&none, &haul().to_bytes()[1..]),
         said("plan 2 0\n", 1)
     );
+}
+
+#[test]
+fn the_lighter_plan() {
+    // Record 5 says no more than 3 and 4 together, but goes last: 3 and 4 are needed before it.
+    let file = |rest: &[_]| bytes(&records(3, rest));
+    let heavy = file(&[ordinary(1, -4, 0), ordinary(2, -3, 1), ordinary(2, -7, 0)]);
+    let light = file(&[ordinary(1, -4, 0), ordinary(2, -3, 1)]);
+    let (output, errors, status) = desk(&["lighter"], &heavy);
+    assert_eq!(
+        (output, &errors[..], status),
+        (light.clone(), "dropped 5\n", 0)
+    );
+    // Nothing more goes, and nothing is said.
+    assert_eq!(desk(&["lighter"], &light), (light, String::new(), 0));
+    let loose = file(&[ordinary(2, -6, 0), ordinary(2, -7, 1), ordinary(1, 0, 0)]);
+    let left = file(&[ordinary(2, -7, 1), ordinary(1, 0, 0)]);
+    assert_eq!(
+        desk(&["lighter"], &loose),
+        (left, "dropped 3\n".to_string(), 0)
+    );
+    let lighter = |input: &[u8]| refused(&["lighter"], input);
+    let unwaited = haul_with(&[]).to_bytes();
+    assert_eq!(lighter(&unwaited), said("lighter 60\n", 1));
+    let wide = plan(2, &[link(0, 1, 4_097, 1), ordinary(0, 0, 1)]).to_bytes();
+    assert_eq!(lighter(&wide), said("lighter 13\n", 1));
+    assert_eq!(lighter(&unwaited[16..]), said("plan 8 0\n", 1));
 }

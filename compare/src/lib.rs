@@ -18,4 +18,5 @@ pub mod programs;
 pub mod requests;
 pub mod sheets;
 pub mod smaller;
+pub mod soundness;
 pub mod texts;

@@ -73,7 +73,7 @@ fn asked(draw: &mut Draw, what: &str, input: Vec<u8>, origin: Origin, more: &[&s
     }
 }
 
-/// The sheet's 1 March, 29 February or new year that is looked for.
+/// Which end of February a sheet passes.
 const MARCHES: [&str; 4] = [
     "past 28 February, no leap day",
     "past a leap day",

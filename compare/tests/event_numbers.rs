@@ -122,8 +122,8 @@ fn found(what: &str, sound_as: Sound, number: Number) {
 
 /// Without this sentence.
 fn without(plan: &Plan, board: &Board, out: Clause) -> bool {
-    let rest = CLAUSES.iter().filter(|clause| **clause != out);
-    rest.into_iter().all(|clause| keeps(plan, board, *clause))
+    let mut rest = CLAUSES.iter().filter(|clause| **clause != out);
+    rest.all(|clause| keeps(plan, board, *clause))
 }
 
 fn done(board: &Board) -> Vec<usize> {

@@ -15,17 +15,13 @@ pub struct Date {
     pub day: u32,
 }
 
-/// The first day that an origin may be on, and the last.
+/// The first day that an origin may be on, and the last year.
 const FIRST: Date = Date {
     year: 1970,
     month: 1,
     day: 1,
 };
-const LAST: Date = Date {
-    year: 2099,
-    month: 12,
-    day: 31,
-};
+const LAST_YEAR: u32 = 2099;
 
 impl Date {
     /// The day after a day.
@@ -83,8 +79,8 @@ impl Origin {
 
     /// Is it a date between 1970 and 2099, with an hour and a minute of the day?
     pub fn is_one(&self) -> bool {
-        let to_last = days().take_while(|date| date.year <= LAST.year);
-        self.hour < 24 && self.minute < 60 && to_last.into_iter().any(|date| date == self.date)
+        let mut to_last = days().take_while(|date| date.year <= LAST_YEAR);
+        self.hour < 24 && self.minute < 60 && to_last.any(|date| date == self.date)
     }
 
     /// The UTC form of so many minutes after it. The years bind the origin only.

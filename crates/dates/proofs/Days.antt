@@ -1,11 +1,11 @@
 -- The days of months and of years, and the number of a day: what each date counts, that the day after counts one more, and that two dates
 -- never count the same. Assumes nothing.
 use mathlib.Core.Path.{_≡_, refl, ap, sym, _∙_}
-use mathlib.Core.Bool.{Bool, true, false, _&&_, _||_, true≢false, and-eq-true-iff}
-use Prim.Native.Nat.{ℕ, zero, suc, _+_, _*_, _-_, _<_, _≤_}
+use mathlib.Core.Bool.{Bool, true, false, true≢false, and-eq-true-iff}
+use Prim.Native.Nat.{ℕ, zero, suc, _+_, _-_, _<_, _≤_}
 use native.Mathlib.Omega.{arith}
 use lib.Dec.{eqb, leb, ltb}
-use borrow.Author.Tests.{eqb-true, eqb-false, ltb-true, ltb-false, leb-true, leb-false, le-leb, lt-ltb, le-ltb}
+use borrow.Author.Tests.{ltb-true, ltb-false, leb-true, le-leb}
 use Rattle.numbers.specs.Choice.{if_then_else_}
 use Rattle.dates.specs.Gregorian.{Date, leap, isMonth, hasThirty, daysIn, isDate, nextDay, daysLater}
 use Rattle.dates.specs.Counting.{daysOf, before, dayNumber, Falls}

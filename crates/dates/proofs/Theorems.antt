@@ -1,15 +1,15 @@
 -- What is promised of dates holds: see specs/Promises. Assumes nothing.
-use mathlib.Core.Path.{_≡_, refl, ap, sym, _∙_}
-use mathlib.Core.Bool.{Bool, true, false, _&&_}
-use Prim.Native.Nat.{ℕ, zero, suc, _+_, _*_, _-_, _/_, _%_, _<_, _≤_}
+use mathlib.Core.Path.{_≡_, refl, ap}
+use mathlib.Core.Bool.{Bool, true, false}
+use Prim.Native.Nat.{ℕ, suc, _+_, _*_, _-_, _/_, _%_, _<_, _≤_}
 use native.Mathlib.Omega.{arith}
 use lib.Dec.{ltb}
 use borrow.Author.Tests.{ltb-true, ltb-false, lt-ltb}
 use Rattle.numbers.specs.Choice.{if_then_else_}
 use Rattle.dates.specs.declared.Stamp.{Stamp}
-use Rattle.dates.specs.Gregorian.{Date, daysIn, isDate, nextDay, daysLater, dateOf, minuteOf, clock, isStamp, isOrigin, shown, nextMinute}
+use Rattle.dates.specs.Gregorian.{Date, daysIn, isDate, nextDay, daysLater, dateOf, minuteOf, clock, isOrigin, shown, nextMinute}
 use Rattle.dates.specs.Counting.{daysOf, before, dayNumber, minuteNumber}
-use Rattle.dates.specs.Promises.{BeginsAtOrigin, ShowsADate, MinuteLater, NeverTheSame, CountsMinutes, YearsShown, Written, CanBeWritten, DayAfter, Dated, OneToOne}
+use Rattle.dates.specs.Promises.{BeginsAtOrigin, ShowsADate, MinuteLater, NeverTheSame, CountsMinutes, YearsShown, CanBeWritten, DayAfter, OneToOne}
 use Rattle.dates.proofs.Sums.{rises}
 use Rattle.dates.proofs.Days.{length-of, date-day, date-month, of-year, same-date, next-after, later}
 use Rattle.dates.proofs.Minutes.{on-clock, origin-of}

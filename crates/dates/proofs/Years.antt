@@ -1,7 +1,7 @@
 -- The days of the years before a year, counted at once: 365 for each, and one for each leap year. Assumes nothing.
 use mathlib.Core.Path.{_≡_, refl}
 use mathlib.Core.Bool.{Bool, true, false, not, _&&_, _||_}
-use Prim.Native.Nat.{ℕ, zero, suc, _+_, _*_, _/_, _%_, _<_, _≤_}
+use Prim.Native.Nat.{ℕ, zero, suc, _+_, _*_, _/_, _%_, _≤_}
 use native.Mathlib.Nat.{mod-add-div', add-div-right, add-mul-div-right, div-eq-of-lt, div-eq-of-lt-le, mod-lt}
 use native.Mathlib.Omega.{arith}
 use lib.Dec.{eqb}

@@ -3,7 +3,7 @@ use mathlib.Core.Path.{_≡_}
 use mathlib.Core.Bool.{true}
 use Prim.Native.Nat.{ℕ, suc, _+_, _*_, _/_, _<_, _≤_}
 use Rattle.dates.specs.declared.Stamp.{Stamp}
-use Rattle.dates.specs.Gregorian.{Date, isDate, nextDay, daysLater, isStamp, isOrigin, shown, nextMinute}
+use Rattle.dates.specs.Gregorian.{Date, isDate, nextDay, isStamp, isOrigin, shown, nextMinute}
 use Rattle.dates.specs.Counting.{daysOf, before, dayNumber, minuteNumber}
 
 -- minute 0 shows the origin

@@ -1,5 +1,5 @@
--- Known dates, computed by the checker: a page of its own, since it is quick, and `Sums` builds on it, so that a wrong calendar is refused
--- here first, with the row that is wrong. Assumes nothing.
+-- Known dates, computed by the checker: a page of its own, since it is quick, and `Sums` builds on it, so that a wrong
+-- calendar is refused here first, with the row that is wrong. Assumes nothing.
 use mathlib.Core.Path.{refl}
 use Rattle.dates.specs.Gregorian.{leap, daysIn, isDate, nextDay, daysLater, isOrigin, shown, nextMinute}
 use Rattle.dates.specs.Counting.{daysOf, before}

@@ -1,4 +1,5 @@
--- What an origin is, and what the code shows: the date that its count of days falls on is so many days after the origin's. Assumes nothing.
+-- What an origin is, and what the code shows: the date that its count of days falls on is so many days after the
+-- origin's. Assumes nothing.
 use mathlib.Core.Path.{_≡_, ap}
 use mathlib.Core.Bool.{true, false, _&&_, and-eq-true-iff}
 use Prim.Native.Nat.{ℕ, _+_, _-_, _/_, _%_, _<_, _≤_}
@@ -69,12 +70,13 @@ on-date o n y l m d e f g =
     same-date _ (daysLater n o) (is-date _ (omega arith) (omega (arith, g .inside))) (r .0)
     (omega (arith, f .counted, g .counted, r .1))
 
--- What the code makes of an origin is what is shown: b are the days of its year before its month, y and mo the year and the month in which
--- the day falls, l and d the days of those before it.
+-- What the code makes of an origin is what is shown: b are the days of its year before its month, y and mo the year and
+-- the month in which the day falls, l and d the days of those before it.
 pub made : (o : Stamp) (m b y l mo d : ℕ) → isOrigin o ≡ true → b ≡ before (daysIn (o .year)) (o .month)
     → Falls daysOf (before daysOf (o .year) + (b + (o .day - 1) + (m / 1440 + (minuteOf o + m % 1440) / 1440))) y l
     → Falls (daysIn y) l mo d
-    → record { year = y; month = mo; day = d + 1; hour = (minuteOf o + m % 1440) % 1440 / 60; minute = (minuteOf o + m % 1440) % 1440 % 60 } ≡ shown o m
+    → record { year = y; month = mo; day = d + 1; hour = (minuteOf o + m % 1440) % 1440 / 60; minute = (minuteOf o + m % 1440) % 1440 % 60 }
+    ≡ shown o m
 unfolding shown
 made o m b y l mo d e h f g =
     let days : m / 1440 + (minuteOf o + m % 1440) / 1440 ≡ (minuteOf o + m) / 1440 = omega arith in

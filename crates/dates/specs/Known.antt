@@ -1,5 +1,5 @@
--- Dates that are known from elsewhere, as tables that the checker computes: what some minutes show, what may be given for minute 0 and what
--- may not, and the numbers of some days. Assumes nothing.
+-- Dates that are known from elsewhere, as tables that the checker computes: what some minutes show, what may be given for
+-- minute 0 and what may not, and the numbers of some days. Assumes nothing.
 use mathlib.Core.Bool.{Bool, true, false, not}
 use mathlib.Core.List.{List, [], _∷_, map}
 use mathlib.Core.Path.{_≡_}
@@ -128,8 +128,8 @@ numbered y m d n = record { date = record { year = y; month = m; day = d }; numb
 abbrev pub counted : Numbered → Numbered
 counted r = record { date = r .date; number = dayNumber (r .date) }
 
--- the first day of year 0 is number 1: the numbers that other calendars count by are these, or these less 366 (from year 1 on) or less
--- 719529 (from 1970 on)
+-- the first day of year 0 is number 1: the numbers that other calendars count by are these, or these less 366 (from year
+-- 1 on) or less 719529 (from 1970 on)
 abbrev pub numbers : List Numbered
 numbers =
     numbered 0 1 1 1

@@ -1,6 +1,6 @@
-// Dates of the Gregorian calendar: document 02, §10. `is_origin` says what may be given for minute 0, and `shown` what a minute after it
-// shows; specs/Gregorian states both. Open functions ask nothing of a caller; the inner ones ask for years and days that a sheet can reach,
-// so that no sum wraps.
+// Dates of the Gregorian calendar: document 02, §10. `is_origin` says what may be given for minute 0, and `shown` what a
+// minute after it shows; specs/Gregorian states both. Open functions ask nothing of a caller; the inner ones ask for
+// years and days that a sheet can reach, so that no sum wraps.
 ghost use mathlib.Core.Path.{_≡_};
 ghost use Prim.Native.Nat.{_+_, _<_, _≤_};
 ghost use Rattle.dates.specs.Gregorian.{isOrigin, shown, leap, daysIn};

@@ -33,7 +33,8 @@ loop-less c = omega arith
 loop-again : tie.Need-loop-again Inv-loop μ-loop
 loop-again c =
     let i = c .before .before .loop .inv in
-    (turn (i .0) (omega arith) (c .days-in2 .ensures), (omega arith, not-last _ _ _ _ (i .0 .counted) (omega arith) (omega (arith, i .0 .days)) (i .1 .1)))
+    let l = not-last _ _ _ _ (i .0 .counted) (omega arith) (omega (arith, i .0 .days)) (i .1 .1) in
+    (turn (i .0) (omega arith) (c .days-in2 .ensures), (omega arith, l))
 
 returns : tie.Need-returns Inv-loop μ-loop
 returns c = stop (c .before .loop .inv .0) (omega arith)

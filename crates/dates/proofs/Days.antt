@@ -1,11 +1,11 @@
--- The days of months and of years, and the number of a day: what each date counts, that the day after counts one more, and that two dates
--- never count the same. Assumes nothing.
+-- The days of months and of years, and the number of a day: what each date counts, that the day after counts one more,
+-- and that two dates never count the same. Assumes nothing.
 use mathlib.Core.Path.{_≡_, refl, ap, sym, _∙_}
-use mathlib.Core.Bool.{Bool, true, false, _&&_, _||_, true≢false, and-eq-true-iff}
-use Prim.Native.Nat.{ℕ, zero, suc, _+_, _*_, _-_, _<_, _≤_}
+use mathlib.Core.Bool.{Bool, true, false, true≢false, and-eq-true-iff}
+use Prim.Native.Nat.{ℕ, zero, suc, _+_, _-_, _<_, _≤_}
 use native.Mathlib.Omega.{arith}
 use lib.Dec.{eqb, leb, ltb}
-use borrow.Author.Tests.{eqb-true, eqb-false, ltb-true, ltb-false, leb-true, leb-false, le-leb, lt-ltb, le-ltb}
+use borrow.Author.Tests.{ltb-true, ltb-false, leb-true, le-leb}
 use Rattle.numbers.specs.Choice.{if_then_else_}
 use Rattle.dates.specs.Gregorian.{Date, leap, isMonth, hasThirty, daysIn, isDate, nextDay, daysLater}
 use Rattle.dates.specs.Counting.{daysOf, before, dayNumber, Falls}
@@ -22,7 +22,8 @@ abbrev byTests : Bool → Bool → Bool → Bool → ℕ
 byTests a b c d = if a then (if b then (if c then 29 else 28) else if d then 30 else 31) else 0
 
 -- What the tests say gives the days of the month.
-pub chosen : (y m : ℕ) (a b c d : Bool) → isMonth m ≡ a → eqb m 2 ≡ b → leap y ≡ c → hasThirty m ≡ d → byTests a b c d ≡ daysIn y m
+pub chosen : (y m : ℕ) (a b c d : Bool) → isMonth m ≡ a → eqb m 2 ≡ b → leap y ≡ c → hasThirty m ≡ d
+    → byTests a b c d ≡ daysIn y m
 unfolding daysIn
 chosen y m a b c d e f g h = sym (rw (e, f, g, h))
 
@@ -99,7 +100,8 @@ pub date-month : (d : Date) → isDate d ≡ true → (1 ≤ d .month) × (d .mo
 date-month d e = let r = date-day d e in length-of (d .year) (d .month) .month (omega arith)
 
 -- A date's place in its year.
-in-year : (d : Date) (n : ℕ) → isDate d ≡ true → dayNumber d ≡ n + 1 → Falls daysOf n (d .year) (before (daysIn (d .year)) (d .month) + (d .day - 1))
+in-year : (d : Date) (n : ℕ) → isDate d ≡ true → dayNumber d ≡ n + 1
+    → Falls daysOf n (d .year) (before (daysIn (d .year)) (d .month) + (d .day - 1))
 in-year d n e k =
     let r = date-day d e in
     let m = date-month d e in
@@ -117,7 +119,8 @@ of-year d e =
     (omega arith, omega (arith, next-part daysOf (d .year), f .inside))
 
 -- A date's place in its month.
-in-month : (d : Date) (n : ℕ) → isDate d ≡ true → before (daysIn (d .year)) (d .month) + (d .day - 1) ≡ n → Falls (daysIn (d .year)) n (d .month) (d .day - 1)
+in-month : (d : Date) (n : ℕ) → isDate d ≡ true → before (daysIn (d .year)) (d .month) + (d .day - 1) ≡ n
+    → Falls (daysIn (d .year)) n (d .month) (d .day - 1)
 in-month d n e k = let r = date-day d e in record { counted = k; inside = omega arith }
 
 -- Two dates whose days have the same number are the same date.
@@ -176,7 +179,8 @@ next-after d e = go (ltb (d .day) (daysIn (d .year) (d .month))) refl (ltb (d .m
         }
 
 -- So many days after a date is a date, and its number is so much more.
-pub later : (n : ℕ) (d : Date) → isDate d ≡ true → (isDate (daysLater n d) ≡ true) × (dayNumber (daysLater n d) ≡ dayNumber d + n)
+pub later : (n : ℕ) (d : Date) → isDate d ≡ true
+    → (isDate (daysLater n d) ≡ true) × (dayNumber (daysLater n d) ≡ dayNumber d + n)
 unfolding daysLater
 later zero d e = (e, omega arith)
 later (suc n) d e =

@@ -1,14 +1,14 @@
--- What an origin is, and what the code shows: the date that its count of days falls on is so many days after the origin's. Assumes nothing.
-use mathlib.Core.Path.{_≡_, refl, ap, sym, _∙_}
-use mathlib.Core.Bool.{Bool, true, false, _&&_, and-eq-true-iff}
-use Prim.Native.Nat.{ℕ, _+_, _*_, _-_, _/_, _%_, _<_, _≤_}
+-- What an origin is, and what the code shows: the date that its count of days falls on is so many days after the
+-- origin's. Assumes nothing.
+use mathlib.Core.Path.{_≡_, ap}
+use mathlib.Core.Bool.{true, false, _&&_, and-eq-true-iff}
+use Prim.Native.Nat.{ℕ, _+_, _-_, _/_, _%_, _<_, _≤_}
 use native.Mathlib.Omega.{arith}
 use lib.Dec.{leb, ltb}
 use borrow.Author.Tests.{ltb-true, leb-true}
-use Rattle.numbers.specs.Choice.{if_then_else_}
 use Rattle.dates.specs.declared.Stamp.{Stamp}
 use Rattle.dates.specs.Gregorian.{firstYear, lastYear, Date, daysIn, isDate, daysLater, dateOf, minuteOf, clock, isStamp, isOrigin, shown}
-use Rattle.dates.specs.Counting.{daysOf, before, dayNumber, Falls}
+use Rattle.dates.specs.Counting.{daysOf, before, Falls}
 use Rattle.dates.proofs.Sums.{next-part, rises}
 use Rattle.dates.proofs.Days.{date-day, date-month, is-date, same-date, later, whole-year, year-long}
 
@@ -53,6 +53,13 @@ origin-of s e =
       days = omega (arith, rises (daysIn (s .year)) (s .month + 1) 13 (omega arith), whole-year (s .year), year-long (s .year));
     }
 
+-- What the code's tests say of an origin, n being the days of its month.
+pub by-its-tests : (s : Stamp) (n : ℕ) → n ≡ daysIn (s .year) (s .month)
+    → ((leb firstYear (s .year) && leb (s .year) lastYear) && ((leb 1 (s .day) && leb (s .day) n) && (ltb (s .hour) 24 && ltb (s .minute) 60)))
+    ≡ isOrigin s
+unfolding isOrigin isDate
+by-its-tests s n e = rw e
+
 -- The date on which a count of days falls that begins with the year of a date is so many days after that date.
 on-date : (o : Date) (n y l m d : ℕ) → isDate o ≡ true
     → Falls daysOf (before daysOf (o .year) + (before (daysIn (o .year)) (o .month) + (o .day - 1) + n)) y l → Falls (daysIn y) l m d
@@ -63,12 +70,13 @@ on-date o n y l m d e f g =
     same-date _ (daysLater n o) (is-date _ (omega arith) (omega (arith, g .inside))) (r .0)
     (omega (arith, f .counted, g .counted, r .1))
 
--- What the code makes of an origin is what is shown: b are the days of its year before its month, y and mo the year and the month in which
--- the day falls, l and d the days of those before it.
+-- What the code makes of an origin is what is shown: b are the days of its year before its month, y and mo the year and
+-- the month in which the day falls, l and d the days of those before it.
 pub made : (o : Stamp) (m b y l mo d : ℕ) → isOrigin o ≡ true → b ≡ before (daysIn (o .year)) (o .month)
     → Falls daysOf (before daysOf (o .year) + (b + (o .day - 1) + (m / 1440 + (minuteOf o + m % 1440) / 1440))) y l
     → Falls (daysIn y) l mo d
-    → record { year = y; month = mo; day = d + 1; hour = (minuteOf o + m % 1440) % 1440 / 60; minute = (minuteOf o + m % 1440) % 1440 % 60 } ≡ shown o m
+    → record { year = y; month = mo; day = d + 1; hour = (minuteOf o + m % 1440) % 1440 / 60; minute = (minuteOf o + m % 1440) % 1440 % 60 }
+    ≡ shown o m
 unfolding shown
 made o m b y l mo d e h f g =
     let days : m / 1440 + (minuteOf o + m % 1440) / 1440 ≡ (minuteOf o + m) / 1440 = omega arith in

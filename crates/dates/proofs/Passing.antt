@@ -1,6 +1,6 @@
 -- A walk over years, or over the months of a year: what holds between two steps. Assumes nothing.
-use mathlib.Core.Path.{_≡_, refl, sym, _∙_}
-use Prim.Native.Nat.{ℕ, suc, _+_, _-_, _<_, _≤_}
+use mathlib.Core.Path.{_≡_}
+use Prim.Native.Nat.{ℕ, _+_, _-_, _<_, _≤_}
 use native.Mathlib.Omega.{arith}
 use Rattle.dates.specs.Counting.{before, Falls}
 use Rattle.dates.proofs.Sums.{next-part}

@@ -1,15 +1,15 @@
 -- What is promised of dates holds: see specs/Promises. Assumes nothing.
-use mathlib.Core.Path.{_≡_, refl, ap, sym, _∙_}
-use mathlib.Core.Bool.{Bool, true, false, _&&_}
-use Prim.Native.Nat.{ℕ, zero, suc, _+_, _*_, _-_, _/_, _%_, _<_, _≤_}
+use mathlib.Core.Path.{_≡_, refl, ap}
+use mathlib.Core.Bool.{Bool, true, false}
+use Prim.Native.Nat.{ℕ, suc, _+_, _*_, _-_, _/_, _%_, _<_, _≤_}
 use native.Mathlib.Omega.{arith}
 use lib.Dec.{ltb}
 use borrow.Author.Tests.{ltb-true, ltb-false, lt-ltb}
 use Rattle.numbers.specs.Choice.{if_then_else_}
 use Rattle.dates.specs.declared.Stamp.{Stamp}
-use Rattle.dates.specs.Gregorian.{Date, daysIn, isDate, nextDay, daysLater, dateOf, minuteOf, clock, isStamp, isOrigin, shown, nextMinute}
+use Rattle.dates.specs.Gregorian.{Date, daysIn, isDate, nextDay, daysLater, dateOf, minuteOf, clock, isOrigin, shown, nextMinute}
 use Rattle.dates.specs.Counting.{daysOf, before, dayNumber, minuteNumber}
-use Rattle.dates.specs.Promises.{BeginsAtOrigin, ShowsADate, MinuteLater, NeverTheSame, CountsMinutes, YearsShown, Written, CanBeWritten, DayAfter, Dated, OneToOne}
+use Rattle.dates.specs.Promises.{BeginsAtOrigin, ShowsADate, MinuteLater, NeverTheSame, CountsMinutes, YearsShown, CanBeWritten, DayAfter, Dated, OneToOne}
 use Rattle.dates.proofs.Sums.{rises}
 use Rattle.dates.proofs.Days.{length-of, date-day, date-month, of-year, same-date, next-after, later}
 use Rattle.dates.proofs.Minutes.{on-clock, origin-of}
@@ -30,7 +30,8 @@ pub shows-a-date : ShowsADate
 shows-a-date o m e =
     let k = origin-of o e in
     let t = (minuteOf o + m) % 1440 in
-    rw (on-its-date o m e, later ((minuteOf o + m) / 1440) (dateOf o) (k .clocked .date) .0, lt-ltb (t / 60) 24 (omega arith), lt-ltb (t % 60) 60 (omega arith))
+    let d = later ((minuteOf o + m) / 1440) (dateOf o) (k .clocked .date) .0 in
+    rw (on-its-date o m e, d, lt-ltb (t / 60) 24 (omega arith), lt-ltb (t % 60) 60 (omega arith))
 
 pub counts-minutes : CountsMinutes
 counts-minutes o m e =
@@ -109,7 +110,12 @@ first = record { year = 0; month = 1; day = 1 }
 
 pub one-to-one : OneToOne
 unfolding first isDate daysIn before
-one-to-one = record { same = same-date; each = λ n. let r = later n first refl in record { date = daysLater n first; is-one = r .0; number = omega (arith, r .1) } }
+one-to-one = record { same = same-date; each = dated }
+  where
+    dated : (n : ℕ) → Dated (suc n)
+    dated n =
+        let r = later n first refl in
+        record { date = daysLater n first; is-one = r .0; number = omega (arith, r .1) }
 
 -- ---- years
 

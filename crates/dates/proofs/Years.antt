@@ -1,7 +1,7 @@
 -- The days of the years before a year, counted at once: 365 for each, and one for each leap year. Assumes nothing.
 use mathlib.Core.Path.{_≡_, refl}
 use mathlib.Core.Bool.{Bool, true, false, not, _&&_, _||_}
-use Prim.Native.Nat.{ℕ, zero, suc, _+_, _*_, _/_, _%_, _<_, _≤_}
+use Prim.Native.Nat.{ℕ, zero, suc, _+_, _*_, _/_, _%_, _≤_}
 use native.Mathlib.Nat.{mod-add-div', add-div-right, add-mul-div-right, div-eq-of-lt, div-eq-of-lt-le, mod-lt}
 use native.Mathlib.Omega.{arith}
 use lib.Dec.{eqb}
@@ -39,7 +39,8 @@ step y =
         → (y + 4) / 4 ≡ (y + 3) / 4 + (if a then 1 else 0)
         → (y + 100) / 100 ≡ (y + 99) / 100 + (if b then 1 else 0)
         → (y + 400) / 400 ≡ (y + 399) / 400 + (if c then 1 else 0)
-        → (if (a && not b) || c then 366 else 365) + (y + 100) / 100 + (y + 3) / 4 + (y + 399) / 400 ≡ 365 + (y + 99) / 100 + (y + 4) / 4 + (y + 400) / 400
+        → (if (a && not b) || c then 366 else 365) + (y + 100) / 100 + (y + 3) / 4 + (y + 399) / 400
+        ≡ 365 + (y + 99) / 100 + (y + 4) / 4 + (y + 400) / 400
     go true e true f true g p q r = rw (p, q, r) (omega arith)
     go true e true f false g p q r = rw (p, q, r) (omega arith)
     go true e false f true g p q r = absurd (eqb-false (y % 100) 0 f (omega (arith, eqb-true (y % 400) 0 g)))
@@ -62,7 +63,8 @@ years-counted (suc y) =
     rw (h, f, g) (with-one _ _ _ _ _ _ _ _ y (step y) (years-counted y))
 
 -- The count with four centuries more.
-with-400 : (b c h h' f f' g g' n : ℕ) → b + h ≡ 365 * n + f + g → c + h' ≡ 365 * (n + 400) + f' + g' → h' ≡ h + 4 → f' ≡ f + 100 → g' ≡ g + 1 → c ≡ b + 146097
+with-400 : (b c h h' f f' g g' n : ℕ) → b + h ≡ 365 * n + f + g → c + h' ≡ 365 * (n + 400) + f' + g'
+    → h' ≡ h + 4 → f' ≡ f + 100 → g' ≡ g + 1 → c ≡ b + 146097
 with-400 b c h h' f f' g g' n p q r s t = omega arith
 
 pub four-centuries : FourCenturies

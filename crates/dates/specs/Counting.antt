@@ -1,5 +1,5 @@
--- Days and minutes counted from the beginning of year 0: what the code counts by, and what shows that no two dates are confused.
--- Assumes nothing.
+-- Days and minutes counted from the beginning of year 0: what the code counts by, and what shows that no two dates are
+-- confused. Assumes nothing.
 use Prim.Native.Nat.{ℕ, zero, suc, _+_, _*_, _<_}
 use mathlib.Core.Path.{_≡_}
 use Rattle.numbers.specs.Choice.{if_then_else_}
@@ -15,7 +15,8 @@ unfoldable pub before : (ℕ → ℕ) → ℕ → ℕ
 before f zero = 0
 before f (suc n) = before f n + f n
 
--- the number of a date's day: the days of the years before, the days of the months before in its year, and the day of the month
+-- the number of a date's day: the days of the years before, the days of the months before in its year, and the day of the
+-- month
 abbrev pub dayNumber : Date → ℕ
 dayNumber d = before daysOf (d .year) + before (daysIn (d .year)) (d .month) + d .day
 
@@ -27,7 +28,8 @@ minuteNumber s = dayNumber (dateOf s) * 1440 + minuteOf s
 abbrev pub farthest : ℕ
 farthest = 1000000000
 
--- Day number n, the first being 0, is day `left` of part `part` (a year, or a month), the first being 0, where part k has f k days.
+-- Day number n, the first being 0, is day `left` of part `part` (a year, or a month), the first being 0, where part k has
+-- f k days.
 pub record Falls (f : ℕ → ℕ) (n part left : ℕ) : Type 0 where
   pub counted : before f part + left ≡ n
   pub inside : left < f part

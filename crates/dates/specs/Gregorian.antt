@@ -1,5 +1,6 @@
--- The Gregorian calendar, as document 02, §10 asks for it: leap years, the days of a month, the day after a date, and the date, hour and
--- minute that a minute of a sheet shows, minute 0 being the origin. Every definition computes. Assumes nothing.
+-- The Gregorian calendar, as document 02, §10 asks for it: leap years, the days of a month, the day after a date, and the
+-- date, hour and minute that a minute of a sheet shows, minute 0 being the origin. Every definition computes. Assumes
+-- nothing.
 use mathlib.Core.Bool.{Bool, not, _&&_, _||_}
 use Prim.Native.Nat.{ℕ, zero, suc, _+_, _*_, _/_, _%_}
 use lib.Dec.{eqb, leb, ltb}
@@ -31,7 +32,8 @@ isMonth m = leb 1 m && leb m 12
 abbrev pub hasThirty : ℕ → Bool
 hasThirty m = eqb m 4 || (eqb m 6 || (eqb m 9 || eqb m 11))
 
--- the days of a month: February has 28, in a leap year 29; those four have 30, and the others 31. A number that is no month has none.
+-- the days of a month: February has 28, in a leap year 29; those four have 30, and the others 31. A number that is no
+-- month has none.
 unfoldable pub daysIn : ℕ → ℕ → ℕ
 daysIn y m =
     if isMonth m then
@@ -74,8 +76,8 @@ isStamp s = isDate (dateOf s) && (ltb (s .hour) 24 && ltb (s .minute) 60)
 unfoldable pub isOrigin : Stamp → Bool
 isOrigin s = (leb firstYear (s .year) && leb (s .year) lastYear) && isStamp s
 
--- The date, hour and minute that minute m shows, where minute 0 is the origin: 1440 minutes make a day. An origin that is none is
--- given back as it is.
+-- The date, hour and minute that minute m shows, where minute 0 is the origin: 1440 minutes make a day. An origin that is
+-- none is given back as it is.
 unfoldable pub shown : Stamp → ℕ → Stamp
 shown o m =
     if isOrigin o then clock (daysLater ((minuteOf o + m) / 1440) (dateOf o)) ((minuteOf o + m) % 1440)

@@ -3,7 +3,7 @@ use mathlib.Core.Path.{_≡_}
 use mathlib.Core.Bool.{true}
 use Prim.Native.Nat.{ℕ, suc, _+_, _*_, _/_, _<_, _≤_}
 use Rattle.dates.specs.declared.Stamp.{Stamp}
-use Rattle.dates.specs.Gregorian.{Date, isDate, nextDay, daysLater, isStamp, isOrigin, shown, nextMinute}
+use Rattle.dates.specs.Gregorian.{Date, isDate, nextDay, isStamp, isOrigin, shown, nextMinute}
 use Rattle.dates.specs.Counting.{daysOf, before, dayNumber, minuteNumber}
 
 -- minute 0 shows the origin
@@ -26,7 +26,8 @@ NeverTheSame = (o : Stamp) (m n : ℕ) → isOrigin o ≡ true → shown o m ≡
 abbrev pub CountsMinutes : Type 0
 CountsMinutes = (o : Stamp) (m : ℕ) → isOrigin o ≡ true → minuteNumber (shown o m) ≡ minuteNumber o + m
 
--- the years that are shown: from the origin's year on, and at most a year more than the days from its first day on make years of 365 days
+-- the years that are shown: from the origin's year on, and at most a year more than the days from its first day on make
+-- years of 365 days
 abbrev pub YearsShown : Type 0
 YearsShown =
     (o : Stamp) (m : ℕ) → isOrigin o ≡ true → (o .year ≤ shown o m .year) × (365 * shown o m .year < 365 * o .year + 367 + m / 1440)

@@ -1,6 +1,6 @@
-// Dates of the Gregorian calendar: document 02, §10. `is_origin` says what may be given for minute 0, and `shown` what a minute after it
-// shows; specs/Gregorian states both. Open functions ask nothing of a caller; the inner ones ask for years and days that a sheet can reach,
-// so that no sum wraps.
+// Dates of the Gregorian calendar: document 02, §10. `is_origin` says what may be given for minute 0, and `shown` what a
+// minute after it shows; specs/Gregorian states both. Open functions ask nothing of a caller; the inner ones ask for
+// years and days that a sheet can reach, so that no sum wraps.
 ghost use mathlib.Core.Path.{_≡_};
 ghost use Prim.Native.Nat.{_+_, _<_, _≤_};
 ghost use Rattle.dates.specs.Gregorian.{isOrigin, shown, leap, daysIn};
@@ -87,11 +87,11 @@ fn year_of(from: u32, days: u32) -> Place
 {
     let mut year = from;
     let mut left = days;
-    let mut whole = days_of(year);
-    while whole <= left {
-        left -= whole;
+    let mut year_days = days_of(year);
+    while year_days <= left {
+        left -= year_days;
         year += 1;
-        whole = days_of(year);
+        year_days = days_of(year);
     }
     Place {
         part: year,
@@ -106,11 +106,11 @@ fn month_of(year: u32, days: u32) -> Place
 {
     let mut month = 1;
     let mut left = days;
-    let mut whole = days_in(year, month);
-    while whole <= left {
-        left -= whole;
+    let mut month_days = days_in(year, month);
+    while month_days <= left {
+        left -= month_days;
         month += 1;
-        whole = days_in(year, month);
+        month_days = days_in(year, month);
     }
     Place {
         part: month,

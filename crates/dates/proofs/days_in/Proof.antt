@@ -1,7 +1,7 @@
 -- `dates::days_in` meets its contract. Assumes nothing.
 use borrow.Author.Needs.{needs}
 use borrow.Author.Tests.{eq-eqb, ne-eqb}
-use mathlib.Core.Path.{_≡_, refl, sym, _∙_}
+use mathlib.Core.Path.{refl, sym, _∙_}
 use mathlib.Core.Bool.{true, false}
 use Rattle.dates.proofs.Days.{chosen}
 use Rattle.dates.proofs.days_in.Statement.{statement}
@@ -12,22 +12,30 @@ is-leap-requires c κs = search needs
 
 returns : tie.Need-returns
 returns c =
-    chosen _ _ true true true _ (c .before .before .before .if1 .taken) (eq-eqb _ _ (c .before .before .if2 .taken))
+    let b = c .before .before in
+    chosen (b .before .before .args .year) (b .before .before .args .month) true true true _ (b .before .if1 .taken) (eq-eqb _ _ (b .if2 .taken))
     (sym (c .before .is-leap .ensures) ∙ c .if3 .taken) refl
 
 returns-2 : tie.Need-returns-2
 returns-2 c =
-    chosen _ _ true true false _ (c .before .before .before .if1 .taken) (eq-eqb _ _ (c .before .before .if2 .taken))
+    let b = c .before .before in
+    chosen (b .before .before .args .year) (b .before .before .args .month) true true false _ (b .before .if1 .taken) (eq-eqb _ _ (b .if2 .taken))
     (sym (c .before .is-leap .ensures) ∙ c .if3 .left) refl
 
 returns-3 : tie.Need-returns-3
-returns-3 c = chosen _ _ true false _ true (c .before .before .if1 .taken) (ne-eqb _ _ (c .before .if2 .left)) refl (c .if4 .taken)
+returns-3 c =
+    let b = c .before in
+    chosen (b .before .before .args .year) (b .before .before .args .month) true false _ true (b .before .if1 .taken) (ne-eqb _ _ (b .if2 .left)) refl
+    (c .if4 .taken)
 
 returns-4 : tie.Need-returns-4
-returns-4 c = chosen _ _ true false _ false (c .before .before .if1 .taken) (ne-eqb _ _ (c .before .if2 .left)) refl (c .if4 .left)
+returns-4 c =
+    let b = c .before in
+    chosen (b .before .before .args .year) (b .before .before .args .month) true false _ false (b .before .if1 .taken) (ne-eqb _ _ (b .if2 .left)) refl
+    (c .if4 .left)
 
 returns-5 : tie.Need-returns-5
-returns-5 c = chosen _ _ false _ _ _ (c .if1 .left) refl refl refl
+returns-5 c = chosen (c .before .args .year) (c .before .args .month) false _ _ _ (c .if1 .left) refl refl refl
 
 pub days-in-spec : {M : Type 1} → statement M
 days-in-spec =

@@ -1,6 +1,6 @@
 -- `dates::days_of` meets its contract. Assumes nothing.
 use borrow.Author.Needs.{needs}
-use mathlib.Core.Path.{_≡_, refl, sym, _∙_}
+use mathlib.Core.Path.{sym, _∙_}
 use Rattle.dates.specs.Counting.{daysOf}
 use Rattle.dates.proofs.days_of.Statement.{statement}
 use Rattle.dates.proofs.days_of.Tie as tie

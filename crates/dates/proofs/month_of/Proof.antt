@@ -1,11 +1,10 @@
 -- `dates::month_of` meets its contract. Assumes nothing.
 use borrow.Author.Needs.{needs}
-use mathlib.Core.Path.{_≡_, refl}
 use native.Mathlib.Omega.{arith}
-use Prim.Native.Nat.{_+_, _-_, _≤_}
+use Prim.Native.Nat.{_-_, _≤_}
 use Rattle.dates.specs.Gregorian.{daysIn}
-use Rattle.dates.specs.Counting.{before, daysOf}
-use Rattle.dates.proofs.Days.{length-of, january, not-last, year-long}
+use Rattle.dates.specs.Counting.{before}
+use Rattle.dates.proofs.Days.{january, not-last}
 use Rattle.dates.proofs.Passing.{Passing, turn, stop}
 use Rattle.dates.proofs.month_of.Statement.{statement}
 use Rattle.dates.proofs.month_of.Tie as tie
@@ -34,7 +33,8 @@ loop-less c = omega arith
 loop-again : tie.Need-loop-again Inv-loop μ-loop
 loop-again c =
     let i = c .before .before .loop .inv in
-    (turn (i .0) (omega arith) (c .days-in2 .ensures), (omega arith, not-last _ _ _ _ (i .0 .counted) (omega arith) (omega (arith, i .0 .days)) (i .1 .1)))
+    let l = not-last _ _ _ _ (i .0 .counted) (omega arith) (omega (arith, i .0 .days)) (i .1 .1) in
+    (turn (i .0) (omega arith) (c .days-in2 .ensures), (omega arith, l))
 
 returns : tie.Need-returns Inv-loop μ-loop
 returns c = stop (c .before .loop .inv .0) (omega arith)

@@ -1,6 +1,6 @@
 -- `dates::shown` meets its contract. Assumes nothing.
 use borrow.Author.Needs.{needs}
-use mathlib.Core.Path.{_≡_, sym, _∙_}
+use mathlib.Core.Path.{sym, _∙_}
 use native.Mathlib.Omega.{arith}
 use Rattle.dates.proofs.Days.{length-of}
 use Rattle.dates.proofs.Minutes.{origin-of, made, kept}
@@ -12,32 +12,38 @@ is-origin-requires c κs = search needs
 
 mul-minute : tie.Need-mul-minute
 mul-minute c =
-    let k = origin-of (c .before .before .before .args .origin) (sym (c .before .before .is-origin .ensures) ∙ c .before .if1 .taken) in
+    let b = c .before in
+    let k = origin-of (b .before .before .args .origin) (sym (b .before .is-origin .ensures) ∙ b .if1 .taken) in
     omega (arith, k .clocked .hours)
 
 add-minute : tie.Need-add-minute
 add-minute c =
-    let k = origin-of (c .before .before .before .before .args .origin) (sym (c .before .before .before .is-origin .ensures) ∙ c .before .before .if1 .taken) in
+    let b = c .before .before in
+    let k = origin-of (b .before .before .args .origin) (sym (b .before .is-origin .ensures) ∙ b .if1 .taken) in
     omega (arith, k .clocked .hours, k .clocked .minutes)
 
 add-minute-2 : tie.Need-add-minute-2
 add-minute-2 c =
-    let k = origin-of (c .before .before .before .before .args .origin) (sym (c .before .before .before .is-origin .ensures) ∙ c .before .before .if1 .taken) in
+    let b = c .before .before in
+    let k = origin-of (b .before .before .args .origin) (sym (b .before .is-origin .ensures) ∙ b .if1 .taken) in
     omega (arith, k .clocked .hours, k .clocked .minutes)
 
 days-before-requires : tie.Need-days-before-requires
 days-before-requires c κs =
-    let k = origin-of (c .before .before .before .before .args .origin) (sym (c .before .before .before .is-origin .ensures) ∙ c .before .before .if1 .taken) in
+    let b = c .before .before in
+    let k = origin-of (b .before .before .args .origin) (sym (b .before .is-origin .ensures) ∙ b .if1 .taken) in
     k .month
 
 sub-days : tie.Need-sub-days
 sub-days c =
-    let k = origin-of (c .before .before .before .before .before .before .args .origin) (sym (c .before .before .before .before .before .is-origin .ensures) ∙ c .before .before .before .before .if1 .taken) in
+    let b = c .before .before .before .before in
+    let k = origin-of (b .before .before .args .origin) (sym (b .before .is-origin .ensures) ∙ b .if1 .taken) in
     k .low
 
 add-days : tie.Need-add-days
 add-days c =
-    let k = origin-of (c .before .before .before .before .before .before .args .origin) (sym (c .before .before .before .before .before .is-origin .ensures) ∙ c .before .before .before .before .if1 .taken) in
+    let b = c .before .before .before .before in
+    let k = origin-of (b .before .before .args .origin) (sym (b .before .is-origin .ensures) ∙ b .if1 .taken) in
     omega (arith, k .days, c .before .days-before .ensures)
 
 add-days-2 : tie.Need-add-days-2
@@ -45,12 +51,14 @@ add-days-2 c = search needs
 
 add-days-3 : tie.Need-add-days-3
 add-days-3 c =
-    let k = origin-of (c .before .before .before .before .before .before .args .origin) (sym (c .before .before .before .before .before .is-origin .ensures) ∙ c .before .before .before .before .if1 .taken) in
+    let b = c .before .before .before .before in
+    let k = origin-of (b .before .before .args .origin) (sym (b .before .is-origin .ensures) ∙ b .if1 .taken) in
     omega (arith, k .days, k .clocked .hours, k .clocked .minutes, c .before .days-before .ensures)
 
 year-of-requires : tie.Need-year-of-requires
 year-of-requires c κs =
-    let k = origin-of (c .before .before .before .before .before .before .args .origin) (sym (c .before .before .before .before .before .is-origin .ensures) ∙ c .before .before .before .before .if1 .taken) in
+    let b = c .before .before .before .before in
+    let k = origin-of (b .before .before .args .origin) (sym (b .before .is-origin .ensures) ∙ b .if1 .taken) in
     omega (arith, k .days, k .last, k .clocked .hours, k .clocked .minutes, c .before .days-before .ensures)
 
 month-of-requires : tie.Need-month-of-requires
@@ -63,9 +71,10 @@ add-t10 c =
 
 returns : tie.Need-returns
 returns c =
-    let o = c .before .before .before .before .before .before .before .before .before .args .origin in
-    made o (c .before .before .before .before .before .before .before .before .before .args .m) _ _ _ _ _ (sym (c .before .before .before .before .before .before .before .before .is-origin .ensures) ∙ c .before .before .before .before .before .before .before .if1 .taken)
-    (c .before .before .before .before .days-before .ensures) (c .before .before .year-of .ensures) (c .before .month-of .ensures)
+    let b = c .before .before .before .before .before .before .before in
+    made (b .before .before .args .origin) (b .before .before .args .m) _ _ _ _ _
+    (sym (b .before .is-origin .ensures) ∙ b .if1 .taken) (c .before .before .before .before .days-before .ensures)
+    (c .before .before .year-of .ensures) (c .before .month-of .ensures)
 
 returns-2 : tie.Need-returns-2
 returns-2 c = kept _ _ (sym (c .before .is-origin .ensures) ∙ c .if1 .left)

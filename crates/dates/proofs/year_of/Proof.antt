@@ -1,11 +1,10 @@
 -- `dates::year_of` meets its contract. Assumes nothing.
 use borrow.Author.Needs.{needs}
-use mathlib.Core.Path.{_≡_, refl}
+use mathlib.Core.Path.{refl}
 use native.Mathlib.Omega.{arith}
 use Prim.Native.Nat.{_+_, _-_, _≤_}
-use Rattle.dates.specs.Gregorian.{daysIn}
 use Rattle.dates.specs.Counting.{before, daysOf}
-use Rattle.dates.proofs.Days.{length-of, january, not-last, year-long}
+use Rattle.dates.proofs.Days.{year-long}
 use Rattle.dates.proofs.Passing.{Passing, turn, stop}
 use Rattle.dates.proofs.year_of.Statement.{statement}
 use Rattle.dates.proofs.year_of.Tie as tie

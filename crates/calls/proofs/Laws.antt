@@ -15,6 +15,8 @@ use Rattle.plan.specs.Limits.{mostPoints}
 use Rattle.history.specs.History.{minuteIn, largest}
 use Rattle.history.proofs.Tests.{clash, both, and-both, either, unless, as-unless}
 use Rattle.history.proofs.Lists.{has, every-has, every-point, point-every, has-members, members-has, every-member, member-every, largest-le, largest-ge, largest-at}
+-- the cases first: a wrong rule is then an error about them
+use Rattle.calls.proofs.ACase.{cases}
 use Rattle.calls.specs.Calls.{callIn, unnumbered, noGap, neverFall, sameMinute, oneForeman, anyTwo, numbered, lastCall}
 
 -- ---- tests of some points
@@ -265,18 +267,18 @@ pub record Adds (watches names : ℕ → Bool) (done : ℕ) (minutes calls : Lis
 module _ (watches names : ℕ → Bool) (done : ℕ) (minutes calls : List ℕ) (t k after : ℕ) (minutesAfter callsAfter : List ℕ)
     (w : Numbers watches done minutes calls k) (a : Adds watches names done minutes calls t (suc k) after minutesAfter callsAfter) where
   -- a point that was done before, as it was
-  pub record Was (p : ℕ) : Type 0 where
-    pub done-before : member done p ≡ true
-    pub minute-was : minuteIn minutesAfter p ≡ minuteIn minutes p
-    pub call-was : callIn callsAfter p ≡ callIn calls p
+  record Was (p : ℕ) : Type 0 where
+    done-before : member done p ≡ true
+    minute-was : minuteIn minutesAfter p ≡ minuteIn minutes p
+    call-was : callIn callsAfter p ≡ callIn calls p
 
   -- a point that the event has done
-  pub record Is (p : ℕ) : Type 0 where
-    pub is-named : names p ≡ true
-    pub minute-is : minuteIn minutesAfter p ≡ t
-    pub call-is : callIn callsAfter p ≡ suc k
+  record Is (p : ℕ) : Type 0 where
+    is-named : names p ≡ true
+    minute-is : minuteIn minutesAfter p ≡ t
+    call-is : callIn callsAfter p ≡ suc k
 
-  pub was-or-is : (p : ℕ) → p < mostPoints → member after p ≡ true → Was p ⊎ Is p
+  was-or-is : (p : ℕ) → p < mostPoints → member after p ≡ true → Was p ⊎ Is p
   was-or-is p l d = go (names p) refl
     where
       go : (b : Bool) → names p ≡ b → Was p ⊎ Is p

@@ -156,16 +156,19 @@ module _ (watches : ℕ → Bool) (done : ℕ) (minutes calls : List ℕ) where
           (and-both _ _ (as-unless (member seen s) _ (λ h. eq-eqb _ _ (same-there h))) third)
 
     -- A point that does not agree: the numbers are not sound.
-    pub refused : done < 2 ^ 32 → agreed ≡ false → false ≡ numbered watches done minutes calls
-    refused f e = go (numbered watches done minutes calls) refl
+    pub refused : done < 2 ^ 32 → (x : Bool) → x ≡ agreed → x ≡ false → false ≡ numbered watches done minutes calls
+    refused f x ex e = go (numbered watches done minutes calls) refl
       where
         go : (b : Bool) → numbered watches done minutes calls ≡ b → false ≡ b
-        go true h = clash (sym (agrees-if _ (numbers-means watches done minutes calls h) f) ∙ e)
+        go true h = clash (sym (agrees-if _ (numbers-means watches done minutes calls h) f) ∙ sym ex ∙ e)
         go false h = refl
 
     -- ---- the slots with a point that agrees
 
-    module _ (ok : agreed ≡ true) where
+    module _ (x : Bool) (ex : x ≡ agreed) (agrees : x ≡ true) where
+      ok : agreed ≡ true
+      ok = sym ex ∙ agrees
+
       abbrev seen' : ℕ
       seen' = withOf seen s
 

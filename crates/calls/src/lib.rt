@@ -10,7 +10,6 @@ ghost use Rattle.calls.specs.Calls.{unnumbered, numbered};
 ghost use Rattle.calls.specs.Inside.{slotOf, slotBy, agreesWith, rising, inOrder};
 use history::ROOM;
 use history::first_points;
-use history::minute_at;
 use points::MOST;
 use points::count;
 use points::first;
@@ -18,19 +17,17 @@ use points::has;
 use points::with;
 use points::without;
 
-// A point not done holds 0.
-fn is_unnumbered(done: u32, calls: [u32; ROOM], p: u8) -> bool
-    ensures { λ t. ⌜ t ≡ unnumbered done calls p ⌝ }
-{
-    has(done, p) | (minute_at(calls, p) == 0)
-}
+// There are no more events than points.
+const MOST_CALLS: u32 = MOST as u32;
 
+// A point not done holds 0.
 fn all_unnumbered(done: u32, calls: [u32; ROOM]) -> bool
     ensures { λ t. ⌜ t ≡ every (unnumbered done calls) (from 0 mostPoints) ⌝ }
 {
     let mut p: u8 = 0;
     while p < MOST {
-        if !is_unnumbered(done, calls, p) {
+        let at = p as usize;
+        if !(has(done, p) | (calls[at] == 0)) {
             return false;
         }
         p += 1;
@@ -45,7 +42,7 @@ fn slot_of(n: u32) -> u8
     if n == 0 {
         0
     } else {
-        ((n - 1) % MOST as u32) as u8
+        ((n - 1) % MOST_CALLS) as u8
     }
 }
 
@@ -60,7 +57,7 @@ fn slot_by(watches: bool, s: u8) -> u8
 fn agrees(n: u32, m: u32, s: u8, by: u8, seen: u32, noted: u32, foremans: u32) -> bool
     ensures { λ t. ⌜ t ≡ agreesWith n m s by seen noted foremans ⌝ }
 {
-    ((0 < n) & (n <= MOST as u32)) & ((!has(seen, s) | (noted == m)) & !has(foremans, by))
+    ((0 < n) & (n <= MOST_CALLS)) & ((!has(seen, s) | (noted == m)) & !has(foremans, by))
 }
 
 // The minutes noted at the first k slots never fall.

@@ -21,15 +21,24 @@ abbrev μ-loop : tie.MeasureT-loop
 loop-holds : tie.Need-loop-holds Inv-loop μ-loop
 loop-holds c = (omega arith, refl)
 
-is-unnumbered-requires : tie.Need-is-unnumbered-requires Inv-loop μ-loop
-is-unnumbered-requires c κs = search needs
+cast-at : tie.Need-cast-at Inv-loop μ-loop
+cast-at c = search needs
+
+has-requires : tie.Need-has-requires Inv-loop μ-loop
+has-requires c κs = search needs
+
+mul-if1 : tie.Need-mul-if1 Inv-loop μ-loop
+mul-if1 c = search needs
+
+array-read-if1 : tie.Need-array-read-if1 Inv-loop μ-loop
+array-read-if1 c = search needs
 
 returns : tie.Need-returns Inv-loop μ-loop
 returns c =
     let a = c .before .before .before .before .args in
     let i = c .before .before .before .loop .inv in
-    let f = sym (c .before .is-unnumbered .ensures) ∙ not-true _ (c .if1 .taken) in
-    points-fails (unnumbered (a .done) (a .calls)) mostPoints _ (c .before .before .loop-test .taken) f ∙ i .1
+    let f = not-true _ (rw (c .before .has .ensures) at (c .if1 .taken)) in
+    points-fails (unnumbered (a .done) (a .t2)) mostPoints _ (c .before .before .loop-test .taken) f ∙ i .1
 
 add-p : tie.Need-add-p Inv-loop μ-loop
 add-p c = search needs
@@ -41,13 +50,12 @@ loop-again : tie.Need-loop-again Inv-loop μ-loop
 loop-again c =
     let a = c .before .before .before .before .args in
     let i = c .before .before .before .loop .inv in
-    let f = sym (c .before .is-unnumbered .ensures) ∙ not-false _ (c .if1 .left) in
-    (omega arith, sym (points-turn (unnumbered (a .done) (a .calls)) mostPoints _ (c .before .before .loop-test .taken) f) ∙ i .1)
+    (omega arith, sym (points-turn (unnumbered (a .done) (a .t2)) mostPoints _ (c .before .before .loop-test .taken) (not-false _ (rw (c .before .has .ensures) at (c .if1 .left)))) ∙ i .1)
 
 returns-2 : tie.Need-returns-2 Inv-loop μ-loop
 returns-2 c =
     let a = c .before .before .args in
-    points-end (unnumbered (a .done) (a .calls)) mostPoints _ (c .loop-test .left) ∙ c .before .loop .inv .1
+    points-end (unnumbered (a .done) (a .t2)) mostPoints _ (c .loop-test .left) ∙ c .before .loop .inv .1
 
 pub all-unnumbered-spec : {M : Type 1} → statement M
 all-unnumbered-spec =
@@ -56,7 +64,10 @@ all-unnumbered-spec =
     Inv-loop
     μ-loop
     loop-holds
-    is-unnumbered-requires
+    cast-at
+    has-requires
+    mul-if1
+    array-read-if1
     returns
     add-p
     loop-less

@@ -1,7 +1,7 @@
 -- `calls::done_numbered` meets its contract. Assumes nothing.
 use borrow.Author.Needs.{needs}
 use native.Mathlib.Omega.{arith}
-use mathlib.Core.Path.{_≡_, refl, ap, sym, _∙_}
+use mathlib.Core.Path.{_≡_, refl, ap, _∙_}
 use borrow.Author.Tests.{not-true, not-false}
 use Prim.Native.Nat.{_<_, _^_}
 use Rattle.points.specs.Sets.{member, countOf}
@@ -78,7 +78,7 @@ returns c =
     let eb = by .ensures ∙ ap (λ b. slotBy b (slot .result)) (c .before .before .before .has .ensures) in
     let u = turn _ _ _ (omega arith) (l .inv .fits) (first .ensures) refl in
     refused (member (a .watched)) (a .done) (a .t2) (a .t3) _ _ _ _ (l .inv) _ _ u refl _ _ (slot .ensures) eb (c .before .before .before .before .before .before .before .before .fits .done .fits)
-    (sym (c .before .agrees .ensures) ∙ not-true _ (c .if1 .taken))
+    _ (c .before .agrees .ensures) (not-true _ (c .if1 .taken))
 
 with-requires : tie.Need-with-requires Inv-loop μ-loop
 with-requires c κs = search needs
@@ -111,7 +111,7 @@ loop-again c =
     let eb = by .ensures ∙ ap (λ b. slotBy b (slot .result)) (c .before .before .before .before .before .before .has .ensures) in
     let u = turn _ _ _ (omega arith) (l .inv .fits) (first .ensures) (c .without .ensures) in
     let next = slots-turn (member (a .watched)) (a .done) (a .t2) (a .t3) _ _ _ _ (l .inv) _ _ u (c .without .ensures) _ _ (slot .ensures) eb
-    (sym (c .before .before .before .before .agrees .ensures) ∙ not-false _ (c .before .before .before .if1 .left)) in
+    _ (c .before .before .before .before .agrees .ensures) (not-false _ (c .before .before .before .if1 .left)) in
     rw (c .before .with2 .ensures, c .before .before .with .ensures) next
 
 in-order-requires : tie.Need-in-order-requires Inv-loop μ-loop
@@ -119,9 +119,10 @@ in-order-requires c κs = search needs
 
 returns-2 : tie.Need-returns-2 Inv-loop μ-loop
 returns-2 c =
-    let a = c .before .before .before .args in
-    let l = c .before .before .loop in
-    c .in-order .ensures ∙ slots-end (member (a .watched)) (a .done) (a .t2) (a .t3) (c .before .before .before .pre) _ _ _ (rw (c .before .loop-test .left) at (l .inv)) (c .before .before .before .fits .done .fits)
+    let s = c .before .before .before in
+    let a = s .args in
+    let all = rw (c .before .loop-test .left) at (c .before .before .loop .inv) in
+    c .in-order .ensures ∙ slots-end (member (a .watched)) (a .done) (a .t2) (a .t3) (s .pre) _ _ _ all (s .fits .done .fits)
 
 pub done-numbered-spec : {M : Type 1} → statement M
 done-numbered-spec =

@@ -3,8 +3,9 @@ use borrow.Author.Needs.{needs}
 use native.Mathlib.Omega.{arith}
 use mathlib.Core.Path.{_≡_, ap, sym, _∙_}
 use borrow.Author.Tests.{le-leb, lt-leb}
-use Prim.Native.Nat.{_≤_, _+_, _-_}
+use Prim.Native.Nat.{suc, _≤_, _<_, _-_}
 use native.Mathlib.Numerals.{add-one}
+use lib.ListN.{getD}
 use Rattle.points.specs.Sets.{from, every}
 use Rattle.plan.specs.Limits.{mostPoints}
 use Rattle.history.proofs.Walks.{points-fails, points-turn, points-end}
@@ -46,7 +47,8 @@ returns : tie.Need-returns Inv-loop μ-loop
 returns c =
     let a = c .before .before .before .args in
     let l = c .before .before .loop in
-    points-fails (rises (a .t1)) (a .k - 1) (l .i) (omega (arith, c .before .loop-test .taken)) (lt-leb _ _ (rw (add-one (l .i)) at (c .if1 .taken))) ∙ l .inv .2
+    let falls = lt-leb (getD (a .t1) (l .i) 0) (getD (a .t1) (suc (l .i)) 0) (omega (arith, rw (add-one (l .i)) at (c .if1 .taken))) in
+    points-fails (rises (a .t1)) (a .k - 1) (l .i) (omega (arith, c .before .loop-test .taken)) falls ∙ l .inv .2
 
 loop-less : tie.Need-loop-less Inv-loop μ-loop
 loop-less c = search needs
@@ -55,7 +57,9 @@ loop-again : tie.Need-loop-again Inv-loop μ-loop
 loop-again c =
     let a = c .before .before .before .args in
     let l = c .before .before .loop in
-    (l .inv .0, omega (arith, c .before .loop-test .taken), sym (points-turn (rises (a .t1)) (a .k - 1) (l .i) (omega (arith, c .before .loop-test .taken)) (le-leb _ _ (rw (add-one (l .i)) at (c .if1 .left)))) ∙ l .inv .2)
+    let more : l .i < a .k - 1 = omega (arith, c .before .loop-test .taken) in
+    let rise = le-leb (getD (a .t1) (l .i) 0) (getD (a .t1) (suc (l .i)) 0) (omega (arith, rw (add-one (l .i)) at (c .if1 .left))) in
+    (l .inv .0, omega (arith, more), sym (points-turn (rises (a .t1)) (a .k - 1) (l .i) more rise) ∙ l .inv .2)
 
 returns-2 : tie.Need-returns-2 Inv-loop μ-loop
 returns-2 c =

@@ -5,4 +5,5 @@ pub mod Going
 pub mod Writing
 pub mod Lined
 mod Starts
+mod Firsts
 pub mod Theorems

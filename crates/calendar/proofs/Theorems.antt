@@ -16,12 +16,14 @@ use Rattle.plan.specs.ReplyNumbers.{checkOf}
 use Rattle.plan.specs.declared.Plan.{Plan}
 use Rattle.verdict.proofs.Broken.{ended-accepted}
 use Rattle.moments.specs.Event.{uidLine}
+use Rattle.moments.proofs.Lengths.{summary-long}
 use Rattle.moments.proofs.Digits.{few-below, toHyphen, read-back}
 use Rattle.calendar.specs.Calendars.{pondCode, eventsLength, textLength, mostText, answer}
-use Rattle.calendar.specs.Promises.{ShortLines, DifferentUids, LengthOfText, Enough, ReachesMost, DifferentStarts}
+use Rattle.calendar.specs.Promises.{ShortLines, DifferentUids, LengthOfText, Enough, ReachesMost, DifferentStarts, PointsFirst, LongestLine}
 use Rattle.calendar.proofs.Lengths.{text-long, few-points, text-parts}
 use Rattle.calendar.proofs.Lined as lined
 use Rattle.calendar.proofs.Starts as starts
+use Rattle.calendar.proofs.Firsts as firsts
 use Rattle.calendar.proofs.Writing.{written}
 
 pub short-lines : ShortLines
@@ -89,3 +91,11 @@ reaches-most = refl
 
 pub different-starts : DifferentStarts
 different-starts = starts.different-starts
+
+pub points-first : PointsFirst
+points-first = firsts.points-first
+
+pub longest-line : LongestLine
+unfolding digits
+longest-line =
+    (refl, refl, λ p code h k. omega (arith, summary-long p code, few-below 1 p (omega arith) (omega arith), few-below 9 code (omega arith) k))

@@ -6,10 +6,12 @@ use mathlib.Core.List.{List, [], _∷_, _++_}
 use Prim.Native.Nat.{ℕ, _^_, _≤_, _<_}
 use lib.Dec.{leb}
 use lib.IntN.{pos}
-use lib.ListN.{length, replicate}
+use lib.ListN.{length, getD, replicate}
 use Rattle.numbers.specs.Fits.{All}
+use Rattle.values.specs.Ascii.{ascii}
 use Rattle.plan.specs.Limits.{mostPoints}
-use Rattle.plan.specs.APlan.{points, recordsOf}
+use Rattle.plan.specs.APlan.{points, blank, recordsOf}
+use Rattle.plan.specs.ReplyNumbers.{checkOf}
 use Rattle.plan.specs.Held.{HeldPlan}
 use Rattle.plan.specs.declared.Plan.{Plan}
 use Rattle.records.specs.declared.Record.{Record}
@@ -18,8 +20,8 @@ use Rattle.board.specs.declared.Board.{Board}
 use Rattle.verdict.specs.Verdicts.{endedOf}
 use Rattle.dates.specs.Gregorian.{isOrigin}
 use Rattle.dates.specs.declared.Stamp.{Stamp}
-use Rattle.moments.specs.Event.{line, uidLine, startLine}
-use Rattle.calendar.specs.Calendars.{momentOf, calendarText, textLength, mostText, answer, calendarOf, writtenOf}
+use Rattle.moments.specs.Event.{line, uidLine, startLine, summaryLine}
+use Rattle.calendar.specs.Calendars.{momentOf, calendarText, textLength, mostText, answer, calendarOf}
 
 -- "none exceeds 75 octets"
 abbrev pub mostOctets : ℕ
@@ -75,3 +77,21 @@ abbrev pub DifferentStarts : Type 0
 DifferentStarts = (p : Plan) (b : Board) (origin : Stamp) → endedOf p b .number ≡ 0 → isOrigin origin ≡ true
     → (i j : ℕ) → i < points (recordsOf p) → j < points (recordsOf p)
     → startLine (momentOf b origin i) ≡ startLine (momentOf b origin j) → minute b i ≡ minute b j
+
+-- a record of point i
+pub record IsPoint (r : Record) (i : ℕ) : Type 0 where
+  pub kind : r .kind ≡ 1
+  pub number : r .a ≡ i
+
+-- "the pond code": a plan's first records are its points, in point order, so record i has point i's code
+abbrev pub PointsFirst : Type 0
+PointsFirst = (p : Plan) → checkOf p .number ≡ 0 → (i : ℕ) → i < points (recordsOf p) → IsPoint (getD (recordsOf p) i blank) i
+
+-- the longest line but for PRODID's, which is as long: 27 octets and CR LF
+abbrev pub longestSummary : List ℕ
+longestSummary = summaryLine 31 4_294_967_295
+
+abbrev pub LongestLine : Type 0
+LongestLine =
+    (length longestSummary ≡ 29) × (length (line (ascii "PRODID:-//Ponds//Sheets//EN")) ≡ 29)
+    × ((p code : ℕ) → p < mostPoints → code < 2 ^ 32 → length (summaryLine p code) ≤ length longestSummary)

@@ -13,6 +13,7 @@ use Rattle.records.specs.declared.Record.{Record}
 use Rattle.plan.specs.APlan.{planOf, howMany, some, firstThat}
 use Rattle.plan.specs.ReplyNumbers.{checkWith, firstBadWith, numberForWith, lastKind}
 use Rattle.board.specs.Boards.{fresh, sound, each, largest}
+use Rattle.board.specs.Calls.{numbered}
 use Rattle.board.specs.Events.{markAll}
 use Rattle.board.specs.Inside.{clockAt}
 use Rattle.board.specs.declared.Board.{Board}
@@ -59,5 +60,5 @@ in-order : (asked odd none 0 ≡ answer 20 0 0)
     × (asked over none 0 ≡ answer 51 0 0)
     × (asked over evening 315 ≡ answer 52 0 0)
     × (asked over evening 316 ≡ answer 0 0 316)
-unfolding calendarOf calendarText eventsOf eventText digits endedOf checkWith firstBadWith numberForWith lastKind howMany some firstThat sound each largest member membersOf withOf belowOf subsetOf from every passing ones markAll leap daysIn isDate nextDay daysLater isOrigin shown
+unfolding calendarOf calendarText eventsOf eventText digits endedOf checkWith firstBadWith numberForWith lastKind howMany some firstThat sound numbered each largest member membersOf withOf belowOf subsetOf from every passing ones markAll leap daysIn isDate nextDay daysLater isOrigin shown
 in-order = (refl, refl, refl, refl, refl)

@@ -104,17 +104,17 @@ module _ {p : Plan} {k n : ℕ} {records : List Record} {i : ℕ} (f : Copied p 
   many-left : length (but k (recordsOf p)) ≡ n
   many-left = fewer p k (f .long) (f .few) ∙ sym (f .many)
 
-  pub copied-more : i < n → {j : ℕ} → j ≡ i + one (leb k i) → Copied p k n (set records i (getD (p .records) j blank)) (i + 1)
-  copied-more l {j} ej =
+  pub copied-more : i < n → {o : ℕ} → o ≡ one (leb k i) → Copied p k n (set records i (getD (p .records) (i + o) blank)) (i + 1)
+  copied-more l {o} eo =
       let m : i < length left = omega (arith, many-left) in
-      let z : take (i + 1) left ≡ take i left ++ (getD (p .records) j blank ∷ []) = rw (add-one i, take-suc left i blank m, element p k (f .long) (f .few) i m, ← ej) refl in
+      let z : take (i + 1) left ≡ take i left ++ (getD (p .records) (i + o) blank ∷ []) = rw (add-one i, take-suc left i blank m, element p k (f .long) (f .few) i m, ← eo) refl in
       record {
         long = f .long;
         few = f .few;
         room = simp length-set (f .room);
         many = f .many;
         within = omega arith;
-        so-far = rw (f .so-far, z) (stored (take i left) i mostRecords (getD (p .records) j blank) blank (omega (arith, length-take i left)) (omega (arith, f .many, f .few)));
+        so-far = rw (f .so-far, z) (stored (take i left) i mostRecords (getD (p .records) (i + o) blank) blank (omega (arith, length-take i left)) (omega (arith, f .many, f .few)));
       }
 
   pub copied-all : n ≤ i → _≡_ {A = Plan} (record { count = n; records = records }) (planOf (but k (recordsOf p)))

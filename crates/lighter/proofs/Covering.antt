@@ -55,19 +55,24 @@ distance : {E : Edges} {X Y : ℕ} (s : Shortest E X Y) → IsDistance E X Y (s 
 distance {E} s = record { up′ = s .up; down′ = s .down; path = vee-walk E (s .walk); sum = omega arith; least = s .least }
 
 pub same-covers : {E F : Edges} → Good E → SameDistances E F → Covers E F
-same-covers g s = record { by = λ {X} {Y} {u} {d} w.
-    let b = g .dispatchable .best X Y (record { up = u; down = d; walk = w }) in
-    let k = s .same X Y (b .up) (b .down) .0 (distance b) in
-    record { up = k .up′; down = k .down′; walk = k .path; short = omega (arith, k .sum, b .least w) } }
+same-covers g s = record {
+  by = λ {X} {Y} {u} {d} w.
+      let b = g .dispatchable .best X Y (record { up = u; down = d; walk = w }) in
+      let k = s .same X Y (b .up) (b .down) .0 (distance b) in
+      record { up = k .up′; down = k .down′; walk = k .path; short = omega (arith, k .sum, b .least w) };
+}
 
 -- What lies between edges and fewer that cover them, and are good, is good and covers them too.
 pub between : {E F G : Edges} → Among G F → Among F E → Covers E G → Good G → Good F × Covers E F
-between {E} {F} {G} low high c g =
-    (record {
-      consistent = record { round = λ {X} {u} {d} w. let k = c .by (over high w) in omega (arith, k .short, g .consistent .round (k .walk)) };
-      dispatchable = record { best = λ X Y j.
+between {E} {F} {G} low high c g = (
+  record {
+    consistent = record { round = λ {X} {u} {d} w. let k = c .by (over high w) in omega (arith, k .short, g .consistent .round (k .walk)) };
+    dispatchable = record {
+      best = λ X Y j.
           let k = c .by (over high (j .walk)) in
           let s = g .dispatchable .best X Y (record { up = k .up; down = k .down; walk = k .walk }) in
-          record { up = s .up; down = s .down; walk = vee-over low (s .walk); least = λ w. let q = c .by (over high w) in omega (arith, q .short, s .least (q .walk)) } };
-    },
-    record { by = λ w. let k = c .by w in record { up = k .up; down = k .down; walk = over low (k .walk); short = k .short } })
+          record { up = s .up; down = s .down; walk = vee-over low (s .walk); least = λ w. let q = c .by (over high w) in omega (arith, q .short, s .least (q .walk)) };
+    };
+  },
+  record { by = λ w. let k = c .by w in record { up = k .up; down = k .down; walk = over low (k .walk); short = k .short } },
+)

@@ -204,9 +204,10 @@ module _ {rs : List Record} {total : ℕ} {kept : Plan} {dropped : List ℕ} {co
             other e (told-yes s) = absurd (e (eqb-true (r .kind) 3 (s .is)))
             other e (told-no n) = told-no (λ m. e (eqb-true (r .kind) 3 (m .ordinary)))
 
-        pub going-turn : {kept′ : Plan} {dropped′ : List ℕ} {c : ℕ} → kept′ ≡ (if gone then rest else kept) → dropped′ ≡ set dropped count (if gone then i else 0)
-            → c ≡ one gone → Going rs total kept′ dropped′ (count + c) (i + 1)
-        going-turn {kept′} {dropped′} {c} e f o = subst (λ (q : Plan). Going rs total q dropped′ (count + c) (i + 1)) (sym e) (go gone told-here f o)
+        pub going-turn : {kept′ : Plan} {v c : ℕ} → kept′ ≡ (if gone then rest else kept) → v ≡ (if gone then i else 0) → c ≡ one gone
+            → Going rs total kept′ (set dropped count v) (count + c) (i + 1)
+        going-turn {kept′} {v} {c} e f o =
+            subst (λ (q : Plan). Going rs total q (set dropped count v) (count + c) (i + 1)) (sym e) (go gone told-here (ap (λ (d : ℕ). set dropped count d) f) o)
           where
             some : i + 1 ≡ suc i
             some = add-one i
@@ -215,7 +216,7 @@ module _ {rs : List Record} {total : ℕ} {kept : Plan} {dropped : List ℕ} {co
             there = omega (arith, g .kept-many, g .few)
 
             -- it may go
-            gone-on : MayGo (g .ks) (getD rs i blank) (drop (suc i) rs) → dropped′ ≡ set dropped count i → c ≡ 1 → Going rs total rest dropped′ (count + c) (i + 1)
+            gone-on : MayGo (g .ks) (getD rs i blank) (drop (suc i) rs) → set dropped count v ≡ set dropped count i → c ≡ 1 → Going rs total rest (set dropped count v) (count + c) (i + 1)
             gone-on m f o =
                 let kind = eqb-true (r .kind) 3 (m .ordinary) in
                 rw (o, some)
@@ -237,7 +238,7 @@ module _ {rs : List Record} {total : ℕ} {kept : Plan} {dropped : List ℕ} {co
                 })
 
             -- it may not
-            kept-on : (MayGo (g .ks) (getD rs i blank) (drop (suc i) rs) → ⊥) → dropped′ ≡ set dropped count 0 → c ≡ 0 → Going rs total kept dropped′ (count + c) (i + 1)
+            kept-on : (MayGo (g .ks) (getD rs i blank) (drop (suc i) rs) → ⊥) → set dropped count v ≡ set dropped count 0 → c ≡ 0 → Going rs total kept (set dropped count v) (count + c) (i + 1)
             kept-on n f o =
                 let z : count + 0 ≡ count = omega arith in
                 let e : (g .ks ++ (r ∷ [])) ++ more ≡ g .ks ++ drop i rs = append-snoc (g .ks) r more ∙ sym records-here in
@@ -259,8 +260,8 @@ module _ {rs : List Record} {total : ℕ} {kept : Plan} {dropped : List ℕ} {co
                   on = λ qs es m. g .on qs es (subst (λ (l : List Record). Goes (g .ks) i l qs es) (sym to-come) (keeps n m));
                 })
 
-            go : (b : Bool) → Told (MayGo (g .ks) (getD rs i blank) (drop (suc i) rs)) b → dropped′ ≡ set dropped count (if b then i else 0) → c ≡ one b
-                → Going rs total (if b then rest else kept) dropped′ (count + c) (i + 1)
+            go : (b : Bool) → Told (MayGo (g .ks) (getD rs i blank) (drop (suc i) rs)) b → set dropped count v ≡ set dropped count (if b then i else 0) → c ≡ one b
+                → Going rs total (if b then rest else kept) (set dropped count v) (count + c) (i + 1)
             go true (told-yes m) f o = gone-on m f o
             go false (told-no n) f o = kept-on n f o
 
@@ -270,6 +271,7 @@ module _ {rs : List Record} {total : ℕ} {kept : Plan} {dropped : List ℕ} {co
   going-end h {r} e =
       let z : i ≡ length rs = omega (arith, g .within) in
       let d : drop i rs ≡ [] = rw z (drop-length rs) in
-      let k : kept ≡ planOf (g .ks) = g .kept-is ∙ ap planOf (ap (λ (l : List Record). g .ks ++ l) d ∙ append-nil (g .ks)) in
-      (g .on (g .ks) [] (subst (λ (l : List Record). Goes (g .ks) i l (g .ks) []) (sym d) ends),
-      e ∙ rw (append-nil (g .ds), k, g .numbers, g .numbers-many) refl)
+      let k : kept ≡ planOf (g .ks) = g .kept-is ∙ ap planOf (ap (λ (l : List Record). g .ks ++ l) d ∙ append-nil (g .ks)) in (
+        g .on (g .ks) [] (subst (λ (l : List Record). Goes (g .ks) i l (g .ks) []) (sym d) ends),
+        e ∙ rw (append-nil (g .ds), k, g .numbers, g .numbers-many) refl,
+      )

@@ -19,13 +19,13 @@ loop-holds : tie.Need-loop-holds Inv-loop μ-loop
 loop-holds c = sofar-none (c .pre)
 
 chosen-requires : tie.Need-chosen-requires Inv-loop μ-loop
-chosen-requires c κs = sofar-choose (c .before .loop .inv) (c .loop-test .taken)
+chosen-requires c κs = sofar-choose (c .before .loop .inv) (omega (arith, c .loop-test .taken))
 
 fits-requires : tie.Need-fits-requires Inv-loop μ-loop
-fits-requires c κs = sofar-fits (c .before .before .before .before .before .loop .inv) (c .before .before .before .before .loop-test .taken) (c .before .before .before .chosen .ensures)
+fits-requires c κs = sofar-fits (c .before .before .before .before .before .loop .inv) (omega (arith, c .before .before .before .before .loop-test .taken)) (c .before .before .before .chosen .ensures)
 
 returns : tie.Need-returns Inv-loop μ-loop
-returns c = sofar-no (c .before .before .before .before .before .before .before .loop .inv) (c .before .before .before .before .before .before .loop-test .taken) (c .before .before .before .before .before .chosen .ensures) _ (c .if1 .taken) (c .before .fits2 .ensures)
+returns c = sofar-no (c .before .before .before .before .before .before .before .loop .inv) (omega (arith, c .before .before .before .before .before .before .loop-test .taken)) (c .before .before .before .before .before .chosen .ensures) _ (c .if1 .taken) (c .before .fits2 .ensures)
 
 add-i : tie.Need-add-i Inv-loop μ-loop
 add-i c = search needs
@@ -34,10 +34,10 @@ loop-less : tie.Need-loop-less Inv-loop μ-loop
 loop-less c = search needs
 
 loop-again : tie.Need-loop-again Inv-loop μ-loop
-loop-again c = sofar-more (c .before .before .before .before .before .before .before .loop .inv) (c .before .before .before .before .before .before .loop-test .taken) (c .before .before .before .before .before .chosen .ensures) _ (c .if1 .left) (c .before .fits2 .ensures)
+loop-again c = sofar-more (c .before .before .before .before .before .before .before .loop .inv) (omega (arith, c .before .before .before .before .before .before .loop-test .taken)) (c .before .before .before .before .before .chosen .ensures) _ (c .if1 .left) (c .before .fits2 .ensures)
 
 returns-2 : tie.Need-returns-2 Inv-loop μ-loop
-returns-2 c = sofar-all (c .before .loop .inv) (c .loop-test .left)
+returns-2 c = sofar-all (c .before .loop .inv) (omega (arith, c .loop-test .left))
 
 pub all-fit-spec : {M : Type 1} → statement M
 all-fit-spec =

@@ -70,7 +70,7 @@ loop-less : tie.Need-loop-less Inv-loop μ-loop
 loop-less c = let v = c .before .before .before .before .before .before .before .loop .inv in omega (arith, v .0, v .1 .kept-many, v .1 .few, going-list (v .1), c .before .before .before .before .before .before .loop-test .taken)
 
 loop-again : tie.Need-loop-again Inv-loop μ-loop
-loop-again c = let v = c .before .before .before .before .before .before .before .loop .inv in (v .0, going-turn (v .1) (omega (arith, v .0, c .before .before .before .before .before .before .loop-test .taken)) refl (c .before .before .before .before .without2 .ensures) (c .before .before .before .is-spare .ensures) (c .before .before .either .ensures) (rw (c .before .number-if .ensures)) (c .one-if .ensures .0))
+loop-again c = let v = c .before .before .before .before .before .before .before .loop .inv in (v .0, going-turn (v .1) (omega (arith, v .0, c .before .before .before .before .before .before .loop-test .taken)) refl (c .before .before .before .before .without2 .ensures) (c .before .before .before .is-spare .ensures) (c .before .before .either .ensures) (c .before .number-if .ensures) (c .one-if .ensures .0))
 
 cast-t24 : tie.Need-cast-t24 Inv-loop μ-loop
 cast-t24 c = let v = c .before .loop .inv in omega (arith, v .1 .kept-many, v .1 .few, v .1 .within)

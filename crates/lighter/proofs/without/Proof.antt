@@ -59,7 +59,7 @@ loop-less : tie.Need-loop-less Inv-loop μ-loop
 loop-less c = let v = c .before .before .before .loop .inv in omega (arith, v .few, v .room, v .many, c .before .before .loop-test .taken)
 
 loop-again : tie.Need-loop-again Inv-loop μ-loop
-loop-again c = copied-more (c .before .before .before .loop .inv) (c .before .before .loop-test .taken) (rw (c .before .one-if2 .ensures .0))
+loop-again c = copied-more (c .before .before .before .loop .inv) (c .before .before .loop-test .taken) (c .before .one-if2 .ensures .0)
 
 cast-t9 : tie.Need-cast-t9 Inv-loop μ-loop
 cast-t9 c = let v = c .before .loop .inv in omega (arith, v .few, v .many)

@@ -1,0 +1,1 @@
+// What the engine makes of a lighter plan: definitions and proofs only.

@@ -1,5 +1,5 @@
--- Worked calendars, computed by the checker: a page of its own, since it is quick, and `Lengths` builds on it, so that a wrong text or a
--- wrong order of refusals is refused here first. Assumes nothing.
+-- Worked calendars, computed by the checker: a page of its own, since it is quick, and `Lengths` builds on it, so that a
+-- wrong text or a wrong order of refusals is refused here first. Assumes nothing.
 use mathlib.Core.Path.{_≡_, refl}
 use mathlib.Core.List.{List, [], _∷_}
 use Prim.Native.Nat.{ℕ}

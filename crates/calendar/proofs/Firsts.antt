@@ -1,7 +1,7 @@
--- The first records of an accepted plan are its points, in the order of their numbers: a point's number is the next one, and kinds never
--- fall. Assumes nothing.
+-- The first records of an accepted plan are its points, in the order of their numbers: a point's number is the next one,
+-- and kinds never fall. Assumes nothing.
 use mathlib.Core.Path.{_≡_, refl, sym, ap, _∙_, subst}
-use mathlib.Core.Bool.{Bool, true, false}
+use mathlib.Core.Bool.{true, false}
 use mathlib.Core.List.{List, [], _∷_, _++_, map, append-nil}
 use Prim.Native.Nat.{ℕ, zero, suc, _+_, _≤_, _<_}
 use native.Mathlib.Omega.{arith}
@@ -18,10 +18,9 @@ use Rattle.rules.proofs.Passed.{Passed, passed}
 use Rattle.rules.proofs.Shows.{last-snoc}
 use Rattle.board.proofs.Theorems.Each.{clash}
 use Rattle.plan.specs.Limits.{mostOrdinary}
-use Rattle.plan.specs.APlan.{Kind, point, link, ordinary, wait, unknown, kindOf, is, one, howMany, points, blank, recordsOf}
-use Rattle.plan.specs.ReplyNumbers.{numberOf, firstBad, firstBadWith, checkOf, checkWith}
+use Rattle.plan.specs.APlan.{Kind, point, kindOf, is, howMany, points, blank, recordsOf}
+use Rattle.plan.specs.ReplyNumbers.{numberOf, firstBad, firstBadWith, checkWith}
 use Rattle.plan.specs.Held.{plain}
-use Rattle.plan.specs.declared.Plan.{Plan}
 use Rattle.plan.specs.declared.Refusal.{Refusal}
 use Rattle.plan.proofs.Entries as Entries
 use Rattle.plan.proofs.Limited.{good}

@@ -1,9 +1,9 @@
--- Two points that were done at different minutes never show the same DTSTART: a moment's sixteen bytes say its date, hour and minute, and
--- the minutes of a sheet are few enough for a year of four digits. Assumes nothing.
+-- Two points that were done at different minutes never show the same DTSTART: a moment's sixteen bytes say its date, hour
+-- and minute, and the minutes of a sheet are few enough for a year of four digits. Assumes nothing.
 use mathlib.Core.Path.{_≡_, refl, sym, ap, _∙_}
 use mathlib.Core.Bool.{Bool, true, false, not}
 use mathlib.Core.List.{List}
-use Prim.Native.Nat.{ℕ, _+_, _*_, _/_, _%_, _^_, _≤_, _<_}
+use Prim.Native.Nat.{ℕ, _+_, _/_, _%_, _≤_, _<_}
 use native.Mathlib.Omega.{arith}
 use borrow.Author.Tests.{eqb-true, eq-eqb}
 use lib.Dec.{eqb}
@@ -11,11 +11,9 @@ use lib.ListN.{getD}
 use Rattle.points.specs.Sets.{belowOf}
 use Rattle.points.proofs.Laws.{below-fits, count-le}
 use Rattle.plan.specs.Choice.{if_then_else_}
-use Rattle.plan.specs.Limits.{mostPoints, farthest}
 use Rattle.plan.specs.APlan.{points, recordsOf}
 use Rattle.plan.specs.ReplyNumbers.{checkOf, refusal, accepted}
 use Rattle.plan.specs.declared.Plan.{Plan}
-use Rattle.plan.specs.declared.Refusal.{Refusal}
 use Rattle.plan.proofs.Accepted.{accepted-plan}
 use Rattle.board.specs.Boards.{minute, sound}
 use Rattle.board.specs.Stuck.{finished}
@@ -24,12 +22,12 @@ use Rattle.board.proofs.Theorems.Each.{clash}
 use Rattle.board.proofs.Theorems.Soundness.{sound-means}
 use Rattle.verdict.specs.Verdicts.{endedOf}
 use Rattle.verdict.proofs.Broken.{ended-accepted}
-use Rattle.dates.specs.Gregorian.{isOrigin, shown}
+use Rattle.dates.specs.Gregorian.{shown}
 use Rattle.dates.specs.Promises.{fourDigits, Written}
 use Rattle.dates.specs.declared.Stamp.{Stamp}
 use Rattle.dates.proofs.Theorems.{never-the-same, can-be-written}
 use Rattle.moments.specs.Event.{startLine}
-use Rattle.calendar.specs.Calendars.{stampText, momentOf}
+use Rattle.calendar.specs.Calendars.{stampText}
 use Rattle.calendar.specs.Promises.{DifferentStarts}
 
 -- a finished board that is not refused is sound, and all its points are done

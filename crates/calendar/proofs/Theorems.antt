@@ -1,16 +1,15 @@
 -- What is promised of calendars: specs/Promises says it. Assumes nothing.
 use mathlib.Core.Path.{_≡_, refl, sym, ap, _∙_}
-use mathlib.Core.Bool.{true}
 use mathlib.Core.List.{List, [], _∷_, _++_, append-assoc}
 use Prim.Native.Nat.{ℕ, zero, suc, _+_, _-_, _*_, _^_, _≤_, _<_}
 use native.Mathlib.Omega.{arith}
 use borrow.Author.Tests.{eq-eqb}
-use lib.ListN.{length, take, drop, getD}
+use lib.ListN.{length, take, drop}
 use Rattle.numbers.specs.Fits.{All}
 use Rattle.lines.specs.Text.{decimal, digits}
 use Rattle.records.specs.declared.Record.{Record}
 use Rattle.plan.specs.Limits.{mostPoints}
-use Rattle.plan.specs.APlan.{howMany, points, blank, recordsOf}
+use Rattle.plan.specs.APlan.{howMany, points, recordsOf}
 use Rattle.plan.specs.Held.{Held, HeldPlan}
 use Rattle.plan.specs.ReplyNumbers.{checkOf}
 use Rattle.plan.specs.declared.Plan.{Plan}

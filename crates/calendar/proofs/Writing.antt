@@ -1,5 +1,5 @@
 -- Writing a calendar, by what its tests say. Assumes nothing.
-use mathlib.Core.Path.{_≡_, sym, _∙_}
+use mathlib.Core.Path.{_≡_}
 use mathlib.Core.Bool.{true, false}
 use mathlib.Core.List.{List, _++_}
 use Prim.Native.Nat.{ℕ, _+_, _≤_, _<_}
@@ -7,7 +7,7 @@ use native.Mathlib.Omega.{arith}
 use lib.Dec.{eqb}
 use borrow.Author.Tests.{lt-ltb, le-ltb}
 use lib.ListN.{length, drop}
-use Rattle.plan.specs.APlan.{points, recordsOf}
+use Rattle.plan.specs.APlan.{recordsOf}
 use Rattle.plan.specs.declared.Plan.{Plan}
 use Rattle.board.specs.declared.Board.{Board}
 use Rattle.verdict.specs.Verdicts.{endedOf}

@@ -1,6 +1,6 @@
--- Document 02, §10, "Sheets in the crews' calendars": the text of a finished board, byte for byte, and what writing it answers. The lines
--- of an event are said in `Event` of `moments`, the date that a minute shows in `Gregorian` of `dates`, the refusals 20 and 31 in
--- `Verdicts` of `verdict`. Assumes nothing.
+-- Document 02, §10, "Sheets in the crews' calendars": the text of a finished board, byte for byte, and what writing it
+-- answers. The lines of an event are said in `Event` of `moments`, the date that a minute shows in `Gregorian` of `dates`,
+-- the refusals 20 and 31 in `Verdicts` of `verdict`. Assumes nothing.
 use mathlib.Core.Bool.{not}
 use mathlib.Core.List.{List, [], _++_}
 use Prim.Native.Nat.{ℕ, zero, suc, _+_}
@@ -10,7 +10,6 @@ use Rattle.values.specs.Ascii.{ascii}
 use Rattle.plan.specs.Choice.{if_then_else_}
 use Rattle.plan.specs.APlan.{points, blank, recordsOf}
 use Rattle.plan.specs.declared.Plan.{Plan}
-use Rattle.plan.specs.declared.Refusal.{Refusal}
 use Rattle.records.specs.declared.Record.{Record}
 use Rattle.board.specs.Boards.{minute}
 use Rattle.board.specs.declared.Board.{Board}

@@ -1,5 +1,5 @@
--- What is promised of calendars beside the text itself, in the words of document 02, §10; proofs/Theorems has the proofs. Definitions
--- only; assumes nothing.
+-- What is promised of calendars beside the text itself, in the words of document 02, §10; proofs/Theorems has the proofs.
+-- Definitions only; assumes nothing.
 use mathlib.Core.Path.{_≡_}
 use mathlib.Core.Bool.{Bool, true, _&&_}
 use mathlib.Core.List.{List, [], _∷_, _++_}

@@ -1,6 +1,6 @@
-// Sheets in the crews' calendars: document 02, §10. `write_calendar` writes a finished board as an iCalendar text by RFC 5545; it takes any
-// plan, any board, any origin and any buffer and answers. The lines of an event come from the room below, `moments`, and dates from
-// `dates`. The inner functions assume an accepted plan and room for what they write.
+// Sheets in the crews' calendars: document 02, §10. `write_calendar` writes a finished board as an iCalendar text by RFC
+// 5545; it takes any plan, any board, any origin and any buffer and answers. The lines of an event come from the room
+// below, `moments`, and dates from `dates`. The inner functions assume an accepted plan and room for what they write.
 ghost use mathlib.Core.Path.{_≡_};
 ghost use Prim.Native.Nat.{_+_, _≤_};
 ghost use lib.ListN.{length};

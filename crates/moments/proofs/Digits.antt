@@ -1,4 +1,5 @@
--- The decimal digits of a number, one by one: how many they are, and how they are stored from the last one back. Assumes nothing.
+-- The decimal digits of a number, one by one: how many they are, and how they are stored from the last one back. Assumes
+-- nothing.
 use mathlib.Core.Path.{_≡_, refl, sym, ap, _∙_}
 use mathlib.Core.List.{List, [], _∷_, _++_, append-assoc}
 use mathlib.Core.Logic.{by-cases}

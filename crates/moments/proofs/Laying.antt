@@ -1,9 +1,9 @@
 -- Text after text in a buffer, and room for it. Assumes nothing.
-use mathlib.Core.Path.{_≡_, refl, sym, ap, _∙_, subst}
+use mathlib.Core.Path.{_≡_, sym, ap, _∙_}
 use mathlib.Core.List.{List, [], _∷_, _++_, append-assoc, append-nil}
-use Prim.Native.Nat.{ℕ, zero, suc, _+_, _-_, _≤_, _<_}
+use Prim.Native.Nat.{ℕ, suc, _+_, _-_, _≤_, _<_}
 use native.Mathlib.Omega.{arith}
-use lib.ListN.{length, take, drop, set, getD, length-append, length-drop, length-set, drop-of-length-le, take-append-drop}
+use lib.ListN.{length, take, drop, set, length-append, length-drop, drop-of-length-le, take-append-drop}
 use lib.Seq.{length-take-le, take-at, drop-at, set-split, drop-drop, drop-cons, drop-set-add, take-set-le, take-all, take-length}
 use Rattle.moments.specs.Inside.{laid, Laid}
 use Rattle.moments.proofs.ACase.{an-event}

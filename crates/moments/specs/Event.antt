@@ -1,5 +1,6 @@
--- Document 02, §10, "Sheets in the crews' calendars": the lines of one event, byte for byte. An event is one point's: its number, its
--- pond code and the moment at which it was done, a text of sixteen bytes in the UTC form of RFC 5545. Assumes nothing.
+-- Document 02, §10, "Sheets in the crews' calendars": the lines of one event, byte for byte. An event is one point's: its
+-- number, its pond code and the moment at which it was done, a text of sixteen bytes in the UTC form of RFC 5545. Assumes
+-- nothing.
 use mathlib.Core.List.{List, [], _∷_, _++_}
 use Prim.Native.Nat.{ℕ, _+_, _*_, _/_, _%_}
 use lib.ListN.{length}

@@ -1,5 +1,5 @@
-// The lines of an iCalendar event, into a buffer from a place on. Document 02, §10; specs/Event states them. An inner room: it serves
-// `calendar`. What puts text into the buffer asks that there is room for it, and answers the place behind it.
+// The lines of an iCalendar event, into a buffer from a place on. Document 02, §10; specs/Event states them. An inner room:
+// it serves `calendar`. What puts text into the buffer asks that there is room for it, and answers the place behind it.
 ghost use mathlib.Core.Path.{_≡_};
 ghost use mathlib.Core.List.{_++_};
 ghost use lib.ListN.{length};

@@ -1,8 +1,8 @@
 -- `moments::digits_of` meets its contract. Assumes nothing.
 use borrow.Author.Needs.{needs}
 use native.Mathlib.Omega.{arith}
-use mathlib.Core.Path.{_≡_, refl}
-use Prim.Native.Nat.{_+_, _/_, _≤_, _<_, _^_}
+use mathlib.Core.Path.{_≡_}
+use Prim.Native.Nat.{_+_, _≤_, _<_, _^_}
 use lib.ListN.{length}
 use Rattle.lines.specs.Text.{decimal}
 use Rattle.lines.proofs.Adding.{few-digits}

@@ -1,7 +1,6 @@
 -- `moments::put` meets its contract. Assumes nothing.
 use borrow.Author.Needs.{needs}
 use native.Mathlib.Omega.{arith}
-use lib.ListN.{length}
 use Rattle.moments.proofs.Laying.{overwritten}
 use Rattle.moments.proofs.put.Statement.{statement}
 use Rattle.moments.proofs.put.Tie as tie

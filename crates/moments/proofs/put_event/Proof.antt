@@ -76,7 +76,14 @@ same-length c = search needs
 
 returns : tie.Need-returns
 unfolding eventText
-returns c = then (then (then (then (then (c .before .before .before .before .before .before .before .before .before .before .before .before .before .before .before .before .before .before .before .before .before .before .before .before .before .put .ensures) (c .before .before .before .before .before .before .before .before .before .before .before .before .before .before .before .before .before .before .before .before .before .put-uid .ensures)) (c .before .before .before .before .before .before .before .before .before .before .before .before .before .before .before .before .put-moment .ensures)) (c .before .before .before .before .before .before .before .before .before .before .before .put-moment2 .ensures)) (c .before .before .before .before .before .before .before .put-summary .ensures)) (c .before .before .put2 .ensures)
+returns c =
+    let l1 = c .before .before .before .before .before .before .before .before .before .before .before .before .before .before .before .before .before .before .before .before .before .before .before .before .before .put .ensures in
+    let l2 = c .before .before .before .before .before .before .before .before .before .before .before .before .before .before .before .before .before .before .before .before .before .put-uid .ensures in
+    let l3 = c .before .before .before .before .before .before .before .before .before .before .before .before .before .before .before .before .put-moment .ensures in
+    let l4 = c .before .before .before .before .before .before .before .before .before .before .before .put-moment2 .ensures in
+    let l5 = c .before .before .before .before .before .before .before .put-summary .ensures in
+    let l6 = c .before .before .put2 .ensures in
+    then (then (then (then (then l1 l2) l3) l4) l5) l6
 
 pub put-event-spec : {M : Type 1} → statement M
 put-event-spec =

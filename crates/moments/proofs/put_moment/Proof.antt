@@ -37,7 +37,11 @@ same-length : tie.Need-same-length
 same-length c = search needs
 
 returns : tie.Need-returns
-returns c = then (then (c .before .before .before .before .before .before .before .before .before .before .before .before .put .ensures) (c .before .before .before .before .before .before .before .put2 .ensures)) (c .before .before .put3 .ensures)
+returns c =
+    let l1 = c .before .before .before .before .before .before .before .before .before .before .before .before .put .ensures in
+    let l2 = c .before .before .before .before .before .before .before .put2 .ensures in
+    let l3 = c .before .before .put3 .ensures in
+    then (then l1 l2) l3
 
 pub put-moment-spec : {M : Type 1} → statement M
 put-moment-spec =

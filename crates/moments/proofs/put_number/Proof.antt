@@ -1,11 +1,6 @@
 -- `moments::put_number` meets its contract. Assumes nothing.
 use borrow.Author.Needs.{needs}
 use native.Mathlib.Omega.{arith}
-use mathlib.Core.Path.{_≡_, refl, sym, _∙_}
-use Prim.Native.Nat.{_+_, _/_, _%_, _≤_, _<_, _^_}
-use lib.ListN.{length, length-set}
-use Rattle.lines.specs.Text.{decimal}
-use Rattle.moments.specs.Inside.{laid}
 use Rattle.moments.proofs.Digits.{some-long, Stored, stored-start, stored-more, stored-turn, stored-end}
 use Rattle.moments.proofs.put_number.Statement.{statement}
 use Rattle.moments.proofs.put_number.Tie as tie

@@ -59,7 +59,13 @@ same-length : tie.Need-same-length
 same-length c = search needs
 
 returns : tie.Need-returns
-returns c = then (then (then (then (c .before .before .before .before .before .before .before .before .before .before .before .before .before .before .before .before .before .before .before .before .before .put .ensures) (c .before .before .before .before .before .before .before .before .before .before .before .before .before .before .before .before .before .put-number .ensures)) (c .before .before .before .before .before .before .before .before .before .before .before .before .put2 .ensures)) (c .before .before .before .before .before .before .before .put3 .ensures)) (c .before .before .put4 .ensures)
+returns c =
+    let l1 = c .before .before .before .before .before .before .before .before .before .before .before .before .before .before .before .before .before .before .before .before .before .put .ensures in
+    let l2 = c .before .before .before .before .before .before .before .before .before .before .before .before .before .before .before .before .before .put-number .ensures in
+    let l3 = c .before .before .before .before .before .before .before .before .before .before .before .before .put2 .ensures in
+    let l4 = c .before .before .before .before .before .before .before .put3 .ensures in
+    let l5 = c .before .before .put4 .ensures in
+    then (then (then (then l1 l2) l3) l4) l5
 
 pub put-uid-spec : {M : Type 1} → statement M
 put-uid-spec =

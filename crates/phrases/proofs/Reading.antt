@@ -3,18 +3,19 @@
 use mathlib.Core.Path.{_≡_, refl, sym, ap, _∙_}
 use mathlib.Core.Bool.{Bool, true, false, _&&_, _||_}
 use mathlib.Core.List.{List, [], _∷_, _++_}
-use Prim.Native.Nat.{ℕ, suc, _+_, _≤_, _<_}
+use Prim.Native.Nat.{ℕ, zero, suc, _+_, _≤_, _<_}
 use native.Mathlib.Omega.{arith}
 use mathlib.Core.Logic.{_⊎_, inl, inr}
 use lib.Dec.{eqb}
-use lib.ListN.{length, drop}
+use lib.ListN.{length, drop, length-drop}
+use lib.Seq.{drop-drop}
 use borrow.Author.Tests.{eq-eqb, ne-eqb, eqb-true}
 use Rattle.numbers.specs.Choice.{if_then_else_}
 use Rattle.numbers.specs.Fits.{All, IsByte}
 use Rattle.values.specs.Values.{isEmpty}
 use Rattle.values.proofs.Tests.{both}
 use Rattle.phrases.specs.Phrases.{isLf, isCr, isBlank, isHash, inFirst, cut, filled, beginsLf, unless, withoutCrs, linesOf, uncommented, wordsOf}
-use Rattle.phrases.specs.Inside.{withByte, withBytes, blankBy, endsBy, blanksFrom, wordFrom, lineEnd}
+use Rattle.phrases.specs.Inside.{freshWord, withByte, withBytes, blankBy, endsBy, blanksFrom, wordFrom, lineEnd}
 use Rattle.phrases.specs.declared.Word.{Word}
 use Rattle.phrases.specs.declared.Found.{Found}
 
@@ -30,6 +31,11 @@ pieces s = cut isBlank (uncommented (firstLine s))
 -- the words of the first line
 abbrev pub firstWords : List ℕ → List (List ℕ)
 firstWords s = filled (pieces s)
+
+pub all-drop : {A : Type 0} (so : A → Type 0) (n : ℕ) (xs : List A) → All so xs → All so (drop n xs)
+all-drop so zero xs h = h
+all-drop so (suc n) [] h = tt
+all-drop so (suc n) (x ∷ xs) h = all-drop so n xs (h .1)
 
 -- ---- tests
 
@@ -165,3 +171,149 @@ goes-on c s e =
     let q = neither (isBlank c) (isCr c && beginsLf s) (p .0) in
     let r = neither (isHash c) (isLf c) (p .1) in
     (by-tests c s ∙ rw (r .1, q .1, r .0, q .0), r .1)
+
+-- ---- the blanks in front of a word
+
+-- what begins the bytes is not blank
+abbrev pub Solid : List ℕ → Type 0
+Solid [] = Unit {0}
+Solid (c ∷ s) = blankBy c (beginsLf s) ≡ false
+
+-- k blanks
+record Skipped (i : ℕ) (s : List ℕ) : Type 0 where
+  k : ℕ
+  place : blanksFrom i s ≡ i + k
+  within : k ≤ length s
+  words : firstWords s ≡ firstWords (drop k s)
+  line : lineEnd i s ≡ lineEnd (i + k) (drop k s)
+  solid : Solid (drop k s)
+
+skipped : (i : ℕ) (s : List ℕ) → Skipped i s
+unfolding blanksFrom lineEnd
+skipped i [] = record { k = 0; place = omega arith; within = omega arith; words = refl; line = omega arith; solid = tt }
+skipped i (c ∷ s) = go (blankBy c (beginsLf s)) refl (skipped (suc i) s)
+  where
+    go : (b : Bool) → blankBy c (beginsLf s) ≡ b → Skipped (suc i) s → Skipped i (c ∷ s)
+    go false e m =
+        let z : i + 0 ≡ i = omega arith in
+        record { k = 0; place = rw (e, z); within = omega arith; words = refl; line = rw z; solid = e }
+    go true e m =
+        let w = blank-words c s e in
+        let z : suc i + m .k ≡ i + suc (m .k) = omega arith in
+        record {
+          k = suc (m .k);
+          place = rw e (m .place ∙ z);
+          within = let h = m .within in omega arith;
+          words = w .0 ∙ m .words;
+          line = rw (w .1) (rw z at (m .line));
+          solid = m .solid;
+        }
+
+-- ---- a word
+
+-- bytes in front of the first piece
+abbrev pub onto : List ℕ → List (List ℕ) → List (List ℕ)
+onto [] ps = ps
+onto (c ∷ g) ps = inFirst c (onto g ps)
+
+pub onto-bare : (g : List ℕ) (ps : List (List ℕ)) → onto g ([] ∷ ps) ≡ g ∷ ps
+onto-bare [] ps = refl
+onto-bare (c ∷ g) ps = ap (inFirst c) (onto-bare g ps)
+
+-- the bytes g of a word go by, and what is left begins with a byte that ends it
+record Went (w : Word) (i : ℕ) (s : List ℕ) : Type 0 where
+  g : List ℕ
+  bytes : All IsByte g
+  found : wordFrom w i s ≡ record { word = withBytes w g; next = i + length g }
+  within : length g ≤ length s
+  split : pieces s ≡ onto g (pieces (drop (length g) s))
+  bare : Bare (pieces (drop (length g) s))
+  line : lineEnd i s ≡ lineEnd (i + length g) (drop (length g) s)
+  ends : isEmpty g ≡ true → Solid s → firstWords s ≡ []
+
+went : (s : List ℕ) → All IsByte s → (w : Word) (i : ℕ) → Went w i s
+unfolding wordFrom withBytes lineEnd firstLine cut uncommented
+went [] b w i =
+    let z : i + 0 ≡ i = omega arith in
+    record {
+      g = [];
+      bytes = tt;
+      found = rw z;
+      within = omega arith;
+      split = refl;
+      bare = record { others = []; first = refl };
+      line = rw z;
+      ends = λ e h. none;
+    }
+went (c ∷ s) b w i = go (endsBy c (beginsLf s)) refl (went s (b .1) (withByte w c) (suc i))
+  where
+    go : (t : Bool) → endsBy c (beginsLf s) ≡ t → Went (withByte w c) (suc i) s → Went w i (c ∷ s)
+    go true e m =
+        let z : i + 0 ≡ i = omega arith in
+        record {
+          g = [];
+          bytes = tt;
+          found = rw (e, z);
+          within = omega arith;
+          split = refl;
+          bare = ends-bare c s e;
+          line = rw z;
+          ends = λ q h. ends-none c s e h;
+        }
+    go false e m =
+        let n = goes-on c s e in
+        let z : suc i + length (m .g) ≡ i + suc (length (m .g)) = omega arith in
+        record {
+          g = c ∷ m .g;
+          bytes = (b .0, m .bytes);
+          found = rw e (rw z at (m .found));
+          within = let h = m .within in omega arith;
+          split = n .0 ∙ ap (inFirst c) (m .split);
+          bare = m .bare;
+          line = rw (n .1) (rw z at (m .line));
+          ends = λ q h. absurd (let y = eqb-true (suc (length (m .g))) 0 q in omega arith);
+        }
+
+-- the next word of the line from place `at` on: g are its bytes, none where the line has no more
+pub record Next (text : List ℕ) (at : ℕ) (f : Found) : Type 0 where
+  pub g : List ℕ
+  pub bytes : All IsByte g
+  pub word : f .word ≡ withBytes freshWord g
+  pub past : at + length g ≤ f .next
+  pub within : at ≤ length text → f .next ≤ length text
+  pub line : lineEnd at (drop at text) ≡ lineEnd (f .next) (drop (f .next) text)
+  pub some : isEmpty g ≡ false → firstWords (drop at text) ≡ g ∷ firstWords (drop (f .next) text)
+  pub last : isEmpty g ≡ true → firstWords (drop at text) ≡ []
+
+abbrev pub found : List ℕ → ℕ → Found
+found text at = wordFrom freshWord (blanksFrom at (drop at text)) (drop (blanksFrom at (drop at text)) text)
+
+pub next-word : (text : List ℕ) → All IsByte text → (at : ℕ) → Next text at (found text at)
+unfolding filled
+next-word text b at = from (skipped at (drop at text))
+  where
+    from : Skipped at (drop at text) → Next text at (found text at)
+    from k =
+        let d : drop (k .k) (drop at text) ≡ drop (at + k .k) text = drop-drop (k .k) at text in
+        let l = length-drop at text in
+        let l2 = length-drop (at + k .k) text in
+        let kw = k .within in
+        let m = went (drop (at + k .k) text) (all-drop IsByte (at + k .k) text b) freshWord (at + k .k) in
+        let e : found text at ≡ record { word = withBytes freshWord (m .g); next = at + k .k + length (m .g) } = rw (k .place) (m .found) in
+        let r : drop (length (m .g)) (drop (at + k .k) text) ≡ drop (at + k .k + length (m .g)) text = drop-drop (length (m .g)) (at + k .k) text in
+        let w : firstWords (drop at text) ≡ firstWords (drop (at + k .k) text) = rw d at (k .words) in
+        let bare : pieces (drop (at + k .k + length (m .g)) text) ≡ [] ∷ m .bare .others = rw r at (m .bare .first) in
+        let s : firstWords (drop (at + k .k) text) ≡ filled (m .g ∷ m .bare .others) =
+        rw (r, bare, onto-bare (m .g) (m .bare .others)) at (ap filled (m .split)) in
+        let solid : Solid (drop (at + k .k) text) = rw d at (k .solid) in
+        rw e
+        record {
+          g = m .g;
+          bytes = m .bytes;
+          word = refl;
+          past = omega arith;
+          within = λ h. let mw = m .within in omega arith;
+          line = rw d at (k .line) ∙ rw r at (m .line);
+          some = λ q. w ∙ s ∙ rw (q, bare);
+          last = λ q. w ∙ m .ends q solid;
+        }

@@ -2,64 +2,26 @@
 // unless every line is good. specs/Listing states it. `pack` goes over the text twice, line by line, and copies none of it: first it
 // looks for a bad line and counts the records, then it writes them. It takes any bytes, of any length, and any buffer.
 ghost use mathlib.Core.Path.{_≡_};
-ghost use Prim.Native.Nat.{_+_, _*_, _%_, _≤_};
+ghost use Prim.Native.Nat.{_+_, _*_, _≤_, min};
+ghost use lib.Dec.{eqb};
 ghost use lib.ListN.{length, drop};
 ghost use Rattle.records.specs.Limits.{recordBytes};
-ghost use Rattle.values.specs.Inside.{valueIn};
-ghost use Rattle.listing.specs.Listing.{firstOf, Outcome, listed, outcomeOf, bytesSaid, allSaid, packed, written};
-ghost use Rattle.listing.specs.Inside.{placesOf, cell, holdsIn, wrongIn, wrongBy, pointIn, countIn, saidIn, lineBy, asLine};
-ghost use Rattle.listing.specs.Inside.{oneIf, scanned, putOf};
+ghost use Rattle.listing.specs.Listing.{outcomeOf, bytesSaid, answer, packed, written};
+ghost use Rattle.sayings.specs.declared.Said.the-variants.{Event};
+ghost use Rattle.listing.specs.Inside.{lineBy, lineAt, oneIf, scanned, fullBytes, putOf};
 use phrases::Word;
-use phrases::is_below;
-use phrases::is_point_or_none;
-use phrases::kind_of;
 use phrases::line_end;
-use phrases::point_or_none;
 use phrases::word_at;
 use records::RECORD_BYTES;
-use records::Record;
 use records::bytes_of;
 use records::put;
+use sayings::CELLS;
+use sayings::Said;
+use sayings::Told;
+use sayings::row_by;
 
-// The words of the longest kind, its own among them.
-const WORDS: usize = 5;
-
-// What was expected, by number; 0 for what is not refused.
-pub const A_KIND: u32 = 1;
-
-pub const SO_MANY_WORDS: u32 = 2;
-
-pub const A_POINT: u32 = 3;
-
-pub const A_NUMBER: u32 = 4;
-
-pub const A_COUNT: u32 = 5;
-
-pub const A_POINT_OR_NONE: u32 = 6;
-
-pub const A_SET: u32 = 7;
-
+// No line is bad, but the buffer is too short. The numbers of bad lines are those of `sayings`.
 pub const A_LONGER_BUFFER: u32 = 8;
-
-// The kinds of line.
-const POINT: u8 = 1;
-
-const LINK: u8 = 2;
-
-const ORDINARY: u8 = 3;
-
-const WAIT: u8 = 4;
-
-const MARK: u8 = 5;
-
-// What a line says: nothing where it has no words; a record of a plan; the mark that ends a plan; an event, as its minute, its point
-// and its set.
-pub enum Said {
-    Nothing,
-    Plan(Record),
-    Mark,
-    Event(u32, u32, u32),
-}
 
 // What packing answers: number 0 and how many bytes were written; or what was expected, and the line, counted from 1.
 pub struct Packed {
@@ -68,16 +30,7 @@ pub struct Packed {
     pub length: usize,
 }
 
-// How many words a kind has behind its own, and what is expected of each; 0 where there is none.
-struct Places {
-    count: usize,
-    first: u32,
-    second: u32,
-    third: u32,
-    fourth: u32,
-}
-
-// A line: what it says and the place behind it, or what was expected.
+// A line: what it says, or what was expected; and the place behind it.
 struct Line {
     number: u32,
     said: Said,
@@ -85,95 +38,184 @@ struct Line {
 }
 
 // A text gone over: what was expected and the line, or how many records there are.
-struct Scan {
+struct Gone {
     number: u32,
     line: usize,
     records: usize,
 }
 
-// The words behind a kind word.
-fn places_of(k: u8) -> Places
-    ensures { λ p. ⌜ p ≡ placesOf k ⌝ }
-{
-    if k == POINT {
-        return Places { count: 2, first: A_POINT, second: A_COUNT, third: 0, fourth: 0 };
-    }
-    if k == LINK {
-        return Places { count: 4, first: A_POINT, second: A_NUMBER, third: A_NUMBER, fourth: A_POINT };
-    }
-    if k == ORDINARY {
-        return Places { count: 3, first: A_POINT, second: A_NUMBER, third: A_POINT, fourth: 0 };
-    }
-    if k == WAIT {
-        return Places { count: 3, first: A_POINT, second: A_POINT, third: A_NUMBER, fourth: 0 };
-    }
-    if k == MARK {
-        return Places { count: 0, first: 0, second: 0, third: 0, fourth: 0 };
-    }
-    Places { count: 3, first: A_COUNT, second: A_POINT_OR_NONE, third: A_SET, fourth: 0 }
-}
-
-// The word is what is expected.
-fn holds(place: u32, w: Word) -> bool
-    ensures { λ t. ⌜ t ≡ holdsIn place w ⌝ }
+// The line has no more words.
+fn is_empty(w: Word) -> bool
+    ensures { λ t. ⌜ t ≡ eqb (w .seen .count) 0 ⌝ }
 {
     let s = w.seen;
-    if place == A_POINT {
-        return is_below(s, 256);
+    s.count == 0
+}
+
+// The cell of a word behind so many others.
+fn cell_of(words: usize) -> usize
+    ensures { λ i. ⌜ (i ≡ min words 5) × (i ≤ 5) ⌝ }
+{
+    if words < 5 { words } else { 5 }
+}
+
+fn line_by(row: Told, next: usize) -> Line
+    ensures { λ l. ⌜ l ≡ lineBy row next ⌝ }
+{
+    let said = row.said;
+    Line {
+        number: row.number,
+        said: said,
+        next: next,
     }
-    if place == A_NUMBER {
-        return s.is_number();
+}
+
+// The line of a text that begins at a place.
+fn line_at(text: &[u8], at: usize) -> Line
+    ensures { λ l. ⌜ l ≡ lineAt at (drop at (now (text .entry))) ⌝ }
+{
+    let none = Word::none();
+    let mut cells = [none; CELLS];
+    let mut words: usize = 0;
+    let mut from = at;
+    loop {
+        let found = word_at(text, from);
+        let word = found.word;
+        if is_empty(word) {
+            return line_by(row_by(words, cells), line_end(text, found.next));
+        }
+        cells[cell_of(words)] = word;
+        words += 1;
+        from = found.next;
     }
-    if place == A_COUNT {
-        return is_below(s, 4294967296);
+}
+
+// How many records a line makes.
+fn one_if(said: Said) -> usize
+    ensures { λ n. ⌜ (n ≡ oneIf said) × (n ≤ 1) ⌝ }
+{
+    match said {
+        Said::Nothing => 0,
+        Said::Plan(_) => 1,
+        Said::Mark => 1,
+        Said::Event(_, _, _) => 1,
     }
-    if place == A_POINT_OR_NONE {
-        return is_point_or_none(s);
+}
+
+// The text gone over.
+fn scan(text: &[u8]) -> Gone
+    ensures { λ r. ⌜ r ≡ scanned (outcomeOf (now (text .entry))) ⌝ }
+{
+    let n = text.len();
+    let mut lines: usize = 0;
+    let mut records: usize = 0;
+    let mut at: usize = 0;
+    while at < n {
+        let line = line_at(text, at);
+        lines += 1;
+        if line.number != 0 {
+            return Gone {
+                number: line.number,
+                line: lines,
+                records: 0,
+            };
+        }
+        let said = line.said;
+        records += one_if(said);
+        at = line.next;
     }
-    w.is_set()
+    Gone {
+        number: 0,
+        line: 0,
+        records: records,
+    }
 }
 
-fn wrong(place: u32, w: Word) -> u32
-    ensures { λ n. ⌜ n ≡ wrongIn place w ⌝ }
+// The sixteen bytes of an event.
+fn event_bytes(m: u32, p: u32, s: u32) -> [u8; RECORD_BYTES]
+    ensures { λ e. ⌜ e ≡ bytesSaid (Event m p s) ⌝ }
 {
-    if holds(place, w) { 0 } else { place }
+    [
+        (m % 256) as u8,
+        (m / 256 % 256) as u8,
+        (m / 256 / 256 % 256) as u8,
+        (m / 256 / 256 / 256 % 256) as u8,
+        (p % 256) as u8,
+        (p / 256 % 256) as u8,
+        (p / 256 / 256 % 256) as u8,
+        (p / 256 / 256 / 256 % 256) as u8,
+        (s % 256) as u8,
+        (s / 256 % 256) as u8,
+        (s / 256 / 256 % 256) as u8,
+        (s / 256 / 256 / 256 % 256) as u8,
+        0,
+        0,
+        0,
+        0,
+    ]
 }
 
-fn first_of(m: u32, n: u32) -> u32
-    ensures { λ r. ⌜ r ≡ firstOf m n ⌝ }
+// The sixteen bytes of a line's record; zeros where it makes none.
+fn bytes_in(said: Said) -> [u8; RECORD_BYTES]
+    ensures { λ e. ⌜ e ≡ fullBytes said ⌝ }
 {
-    if m == 0 { n } else { m }
+    match said {
+        Said::Nothing => [0u8; RECORD_BYTES],
+        Said::Plan(r) => bytes_of(r),
+        Said::Mark => [255u8; RECORD_BYTES],
+        Said::Event(m, p, s) => event_bytes(m, p, s),
+    }
 }
 
-// What is expected at the first word that is wrong.
-fn wrong_by(p: Places, cells: [Word; WORDS]) -> u32
-    ensures { λ n. ⌜ n ≡ wrongBy p cells ⌝ }
+// A line's record into the buffer, from `at` on.
+fn put_said(out: &mut [u8], at: usize, said: Said)
+    requires { ⌜ at + recordBytes * oneIf said ≤ length (now out) ⌝ }
+    ensures { λ _. ⌜ now (out .exit) ≡ putOf (now (out .entry)) at said ⌝ }
 {
-    let a = cells[1];
-    let b = cells[2];
-    let c = cells[3];
-    let d = cells[4];
-    let rest = first_of(wrong(p.third, c), wrong(p.fourth, d));
-    first_of(wrong(p.first, a), first_of(wrong(p.second, b), rest))
+    if one_if(said) == 0 {
+        return;
+    }
+    put(out, at, bytes_in(said));
 }
 
-fn point_in(w: Word) -> u8
-    ensures { λ p. ⌜ p ≡ pointIn w ⌝ }
+// The records of a good text into the front of the buffer.
+fn write(text: &[u8], out: &mut [u8])
+    requires { ⌜ (scanned (outcomeOf (now text)) .number ≡ 0) × (recordBytes * scanned (outcomeOf (now text)) .records ≤ length (now out)) ⌝ }
+    ensures { λ _. ⌜ now (out .exit) ≡ written (now (out .entry)) (outcomeOf (now (text .entry))) ⌝ }
 {
-    let s = w.seen;
-    s.point()
+    let n = text.len();
+    let mut to: usize = 0;
+    let mut at: usize = 0;
+    while at < n {
+        let line = line_at(text, at);
+        let said = line.said;
+        put_said(out, to, said);
+        to += RECORD_BYTES * one_if(said);
+        at = line.next;
+    }
 }
 
-fn number_in(w: Word) -> i32
-    ensures { λ x. ⌜ x ≡ valueIn (w .seen) ⌝ }
+fn told(number: u32, line: usize, length: usize) -> Packed
+    ensures { λ p. ⌜ p ≡ answer number line length ⌝ }
 {
-    let s = w.seen;
-    s.number()
+    Packed {
+        number: number,
+        line: line,
+        length: length,
+    }
 }
 
-fn count_in(w: Word) -> u32
-    ensures { λ n. ⌜ n ≡ countIn w ⌝ }
+// Packs a listing into the front of the buffer, or changes none of it.
+pub fn pack(text: &[u8], out: &mut [u8]) -> Packed
+    ensures { λ p. ⌜ (p ≡ packed (length (now (out .entry))) (outcomeOf (now (text .entry)))) × (now (out .exit) ≡ written (now (out .entry)) (outcomeOf (now (text .entry)))) ⌝ }
 {
-    let s = w.seen;
-    (s.size % 4294967296) as u32
+    let found = scan(text);
+    if found.number != 0 {
+        return told(found.number, found.line, 0);
+    }
+    if out.len() / RECORD_BYTES < found.records {
+        return told(A_LONGER_BUFFER, 0, 0);
+    }
+    write(text, out);
+    told(0, 0, RECORD_BYTES * found.records)
 }

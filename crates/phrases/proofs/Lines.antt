@@ -9,8 +9,7 @@ use lib.ListN.{length, drop}
 use borrow.Author.Tests.{ne-eqb, eqb-true}
 use Rattle.numbers.specs.Choice.{if_then_else_}
 use Rattle.phrases.specs.Phrases.{isLf, isCr, inFirst, cut, beginsLf, unless, withoutCrs, linesOf}
-use Rattle.phrases.specs.Inside.{lineEnd}
-use Rattle.phrases.proofs.Reading.{firstLine}
+use Rattle.phrases.specs.Inside.{lineEnd, firstLine}
 
 -- the place behind a line moves with its beginning
 pub end-moves : (i : ℕ) (s : List ℕ) → lineEnd i s ≡ i + lineEnd 0 s

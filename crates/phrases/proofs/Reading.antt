@@ -7,7 +7,7 @@ use Prim.Native.Nat.{ℕ, zero, suc, _+_, _≤_, _<_}
 use native.Mathlib.Omega.{arith}
 use mathlib.Core.Logic.{_⊎_, inl, inr}
 use lib.Dec.{eqb}
-use lib.ListN.{length, drop, length-drop}
+use lib.ListN.{length, getD, drop, length-drop}
 use lib.Seq.{drop-drop}
 use borrow.Author.Tests.{eq-eqb, ne-eqb, eqb-true}
 use Rattle.numbers.specs.Choice.{if_then_else_}
@@ -15,14 +15,9 @@ use Rattle.numbers.specs.Fits.{All, IsByte}
 use Rattle.values.specs.Values.{isEmpty}
 use Rattle.values.proofs.Tests.{both}
 use Rattle.phrases.specs.Phrases.{isLf, isCr, isBlank, isHash, inFirst, cut, filled, beginsLf, unless, withoutCrs, linesOf, uncommented, wordsOf}
-use Rattle.phrases.specs.Inside.{freshWord, withByte, withBytes, blankBy, endsBy, blanksFrom, wordFrom, lineEnd}
+use Rattle.phrases.specs.Inside.{freshWord, withByte, withBytes, blankBy, endsBy, blanksFrom, wordFrom, lineEnd, firstLine}
 use Rattle.phrases.specs.declared.Word.{Word}
 use Rattle.phrases.specs.declared.Found.{Found}
-
--- the first line of a text
-unfoldable pub firstLine : List ℕ → List ℕ
-firstLine [] = []
-firstLine (c ∷ s) = if isLf c then [] else unless (isCr c && beginsLf s) c (firstLine s)
 
 -- the pieces of the first line, empty ones too
 abbrev pub pieces : List ℕ → List (List ℕ)
@@ -317,3 +312,8 @@ next-word text b at = from (skipped at (drop at text))
           some = λ q. w ∙ s ∙ rw (q, bare);
           last = λ q. w ∙ m .ends q solid;
         }
+
+-- the bytes of a slice
+pub all-bytes : (s : List ℕ) → ((i : ℕ) → getD s i 0 < 256) → All IsByte s
+all-bytes [] h = tt
+all-bytes (c ∷ s) h = (h 0, all-bytes s (λ i. h (suc i)))

@@ -8,7 +8,7 @@ use Rattle.numbers.specs.Choice.{if_then_else_}
 use Rattle.points.specs.Sets.{member, withOf}
 use Rattle.values.specs.Inside.{fresh, with, wordIn, kindIn}
 use Rattle.values.specs.declared.Seen.{Seen}
-use Rattle.phrases.specs.Phrases.{isLf, isCr, isBlank, isHash, isComma, beginsLf}
+use Rattle.phrases.specs.Phrases.{isLf, isCr, isBlank, isHash, isComma, beginsLf, unless}
 use Rattle.phrases.specs.declared.Word.{Word}
 use Rattle.phrases.specs.declared.Found.{Found}
 
@@ -70,6 +70,11 @@ wordFrom w i (c ∷ s) = if endsBy c (beginsLf s) then record { word = w; next =
 unfoldable pub lineEnd : ℕ → List ℕ → ℕ
 lineEnd i [] = i
 lineEnd i (c ∷ s) = if isLf c then i + 1 else lineEnd (suc i) s
+
+-- the first line of a text
+unfoldable pub firstLine : List ℕ → List ℕ
+firstLine [] = []
+firstLine (c ∷ s) = if isLf c then [] else unless (isCr c && beginsLf s) c (firstLine s)
 
 -- the answers by what is known of a word
 unfoldable pub kindBy : Seen → ℕ

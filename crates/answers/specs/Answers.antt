@@ -29,6 +29,9 @@ droppedWord = 0x646570706f7264
 abbrev pub calendarWord : ℕ
 calendarWord = 0x7261646e656c6163
 
+abbrev pub lineWord : ℕ
+lineWord = 0x656e696c
+
 -- worst MINUTE PROJECTION, worst NUMBER
 abbrev pub worstLine : Worst → Line
 worstLine (At t i) = said (Name worstWord) (Number t ∷ Number i ∷ [])
@@ -57,3 +60,7 @@ droppedLine n = said (Name droppedWord) (Number n ∷ [])
 -- calendar NUMBER
 abbrev pub calendarRefused : ℕ → Line
 calendarRefused n = said (Name calendarWord) (Number n ∷ [])
+
+-- line N
+abbrev pub lineNumber : ℕ → Line
+lineNumber n = said (Name lineWord) (Number n ∷ [])

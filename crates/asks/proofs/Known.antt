@@ -17,10 +17,10 @@ use Rattle.values.specs.declared.Seen.{Seen}
 use Rattle.values.proofs.Tests.{both}
 use Rattle.values.proofs.Words.{base, same-word}
 use Rattle.values.proofs.Tells.{Tells, tells-all}
-use Rattle.asks.specs.Asks.{testVerb, worstVerb, dayVerb, importVerb, closeVerb, lighterVerb, calendarVerb, isCount, alone, counted, dated, numberOf, askedOf}
+use Rattle.asks.specs.Asks.{testVerb, worstVerb, dayVerb, importVerb, closeVerb, lighterVerb, packVerb, calendarVerb, isCount, alone, counted, dated, numberOf, askedOf}
 use Rattle.asks.specs.Inside.{isVerb, countIn, aloneIn, countedIn, datedIn, numberIn}
 use Rattle.asks.specs.declared.Asked.{Asked}
-use Rattle.asks.specs.declared.Asked.the-variants.{Test, Worst, Day, Import, Close, Lighter, Calendar, Nothing}
+use Rattle.asks.specs.declared.Asked.the-variants.{Test, Worst, Day, Import, Close, Lighter, Pack, Calendar, Nothing}
 use Rattle.asks.specs.declared.Number.{Number}
 
 -- a word that begins with a minus is not all digits
@@ -105,6 +105,7 @@ module _ (f : List ℕ) (a : All IsByte f) where
         verb importVerb (omega arith, (omega arith, (omega arith, (omega arith, (omega arith, (omega arith, tt)))))) (omega arith),
         verb closeVerb (omega arith, (omega arith, (omega arith, (omega arith, (omega arith, tt))))) (omega arith),
         verb lighterVerb (omega arith, (omega arith, (omega arith, (omega arith, (omega arith, (omega arith, (omega arith, tt))))))) (omega arith),
+        verb packVerb (omega arith, (omega arith, (omega arith, (omega arith, tt)))) (omega arith),
       )
 
   pub dated-known : datedIn known ≡ dated f
@@ -158,9 +159,13 @@ module _ (s : Seen) (t : isVerb 4 0x74657374 s ≡ false) (w : isVerb 5 0x776f72
     unfolding aloneIn
     is-lighter e = rw (t, w, i, c, e)
 
-    pub is-none : isVerb 7 0x6c696768746572 s ≡ false → Nothing ≡ aloneIn s
+    pub is-pack : isVerb 7 0x6c696768746572 s ≡ false → isVerb 4 0x7061636b s ≡ true → Pack ≡ aloneIn s
     unfolding aloneIn
-    is-none e = rw (t, w, i, c, e)
+    is-pack l e = rw (t, w, i, c, l, e)
+
+    pub is-none : isVerb 7 0x6c696768746572 s ≡ false → isVerb 4 0x7061636b s ≡ false → Nothing ≡ aloneIn s
+    unfolding aloneIn
+    is-none l e = rw (t, w, i, c, l, e)
 
 pub is-day : (s n : Seen) → (isVerb 3 0x646179 s && countIn n) ≡ true → Day (n .size % 4294967296) ≡ countedIn s n
 unfolding countedIn

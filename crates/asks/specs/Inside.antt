@@ -5,7 +5,7 @@ use lib.Dec.{eqb, ltb}
 use Rattle.numbers.specs.Choice.{if_then_else_}
 use Rattle.values.specs.declared.Seen.{Seen}
 use Rattle.asks.specs.declared.Asked.{Asked}
-use Rattle.asks.specs.declared.Asked.the-variants.{Test, Worst, Day, Import, Close, Lighter, Calendar, Nothing}
+use Rattle.asks.specs.declared.Asked.the-variants.{Test, Worst, Day, Import, Close, Lighter, Pack, Calendar, Nothing}
 use Rattle.asks.specs.declared.Number.{Number}
 
 -- so many letters, as one number to the base 256
@@ -22,6 +22,7 @@ aloneIn s =
     else if isVerb 6 0x696d706f7274 s then Import
     else if isVerb 5 0x636c6f7365 s then Close
     else if isVerb 7 0x6c696768746572 s then Lighter
+    else if isVerb 4 0x7061636b s then Pack
     else Nothing
 
 unfoldable pub countedIn : Seen → Seen → Asked

@@ -18,6 +18,7 @@ pub enum Asked {
     Import,
     Close,
     Lighter,
+    Pack,
     Calendar,
     Nothing,
 }
@@ -40,6 +41,8 @@ const IMPORT: u64 = 0x696d706f7274;
 const CLOSE: u64 = 0x636c6f7365;
 
 const LIGHTER: u64 = 0x6c696768746572;
+
+const PACK: u64 = 0x7061636b;
 
 const CALENDAR: u64 = 0x63616c656e646172;
 
@@ -96,6 +99,9 @@ fn alone(s: Seen) -> Asked
     }
     if is_verb(s, 7, LIGHTER) {
         return Asked::Lighter;
+    }
+    if is_verb(s, 4, PACK) {
+        return Asked::Pack;
     }
     Asked::Nothing
 }

@@ -37,6 +37,7 @@ use Rattle.worst.proofs.worst_of.Reads as worst-of-code
 use Rattle.worst.proofs.day_of.Reads as day-of-code
 use Rattle.closure.proofs.close.Reads as close-code
 use Rattle.lines.proofs.blank.Reads as blank-code
+use Rattle.listing.proofs.pack.Reads as pack-code
 use Rattle.lighter.proofs.lighter_of.Reads as lighter-of-code
 use Rattle.dates.proofs.is_origin.Reads as is-origin-code
 use Rattle.dates.proofs.shown.Reads as shown-code
@@ -95,6 +96,9 @@ pub record SingleReplies : Type 0 where
   pub is-watched : Single is-watched-code.Pre is-watched-code.Post
   -- office
   pub import : Single import-code.Pre import-code.Post
+  -- listing
+  pub pack : Single pack-code.Pre pack-code.Post
+  pub pack-leaves : Leaves pack-code.Post (λ o. o .1 .0 .now)
   -- bounds
   pub bound-kept : Single bound-kept-code.Pre bound-kept-code.Post
   pub both-in : Single both-in-code.Pre both-in-code.Post

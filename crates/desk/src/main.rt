@@ -7,6 +7,7 @@ mod import_verb;
 mod input;
 mod lighter_verb;
 mod made;
+mod pack_verb;
 mod say;
 mod sheet_in;
 mod test_verb;
@@ -15,7 +16,7 @@ mod worst_verb;
 use asks::Asked;
 
 // The verbs and their words.
-const USAGE: [u8; 103] = *b"usage: desk test | worst | day NUMBER | import | close | lighter | calendar YEAR MONTH DAY HOUR MINUTE
+const USAGE: [u8; 110] = *b"usage: desk test | worst | day NUMBER | import | pack | close | lighter | calendar YEAR MONTH DAY HOUR MINUTE
 ";
 
 // The first two words behind the program's name: a verb, and what it is asked.
@@ -40,6 +41,7 @@ fn main() {
         Asked::Import => import_verb::run(),
         Asked::Close => close_verb::run(),
         Asked::Lighter => lighter_verb::run(),
+        Asked::Pack => pack_verb::run(),
         Asked::Calendar => calendar_verb::run(),
         Asked::Nothing => usage(),
     }

@@ -43,10 +43,7 @@ fn calendar(origin: Stamp) {
     let sheet = sheet_in();
     if sheet.stage != PLAYING {
         let taken = sheet.taken;
-        return say(
-            STDERR_FILENO,
-            text::plan_line(taken.number, taken.place),
-        );
+        return say(STDERR_FILENO, text::plan_line(taken.number, taken.place));
     }
     write(sheet, origin)
 }

@@ -16,7 +16,8 @@ mod worst_verb;
 use asks::Asked;
 
 // The verbs and their words.
-const USAGE: [u8; 110] = *b"usage: desk test | worst | day NUMBER | import | pack | close | lighter | calendar YEAR MONTH DAY HOUR MINUTE
+const USAGE: [u8; 110] =
+    *b"usage: desk test | worst | day NUMBER | import | pack | close | lighter | calendar YEAR MONTH DAY HOUR MINUTE
 ";
 
 // The first two words behind the program's name: a verb, and what it is asked.

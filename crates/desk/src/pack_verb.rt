@@ -27,7 +27,8 @@ const A_POINT_OR_NONE: [u8; 45] = *b"pack: expected none or a point, 0 to 254, a
 
 const A_SET: [u8; 51] = *b"pack: expected none or points below 32, as 2,4, at ";
 
-const TOO_LONG: [u8; 84] = *b"usage: a listing for pack has at most 262144 bytes and makes at most 16384 records.\n";
+const TOO_LONG: [u8; 84] =
+    *b"usage: a listing for pack has at most 262144 bytes and makes at most 16384 records.\n";
 
 // What is said of a bad line, or of a listing that makes too many records.
 fn refused(answer: Packed) {
@@ -43,7 +44,8 @@ fn refused(answer: Packed) {
             io::write_all(STDERR_FILENO, &TOO_LONG);
             return;
         }
-    };
+    }
+    ;
     let line = (answer.line % 4294967296) as u32;
     say(STDERR_FILENO, answers::line_number(line))
 }

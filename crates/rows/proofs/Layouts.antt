@@ -1,24 +1,24 @@
 -- A plan laid out on a sheet, record by record. Assumes nothing.
-use mathlib.Core.Path.{_≡_, refl, sym, _∙_}
+use mathlib.Core.Path.{_≡_, refl, sym, ap, _∙_}
 use mathlib.Core.Logic.{_≢_}
-use mathlib.Core.Bool.{Bool, true, false}
+use mathlib.Core.Bool.{Bool, true, false, _&&_}
 use mathlib.Core.List.{List, [], _∷_}
 use Prim.Native.Nat.{ℕ, suc, _+_, _-_, _*_, _<_, _≤_}
 use native.Mathlib.Omega.{arith}
 use native.Mathlib.Decide.{ℕ-discrete}
-use lib.ListN.{length, getD, set, length-set, length-take}
-use lib.Seq.{getD-set-same, getD-set-other, getD-take}
+use lib.Dec.{eqb}
+use lib.ListN.{length, getD, set, drop, replicate, length-set, length-take, length-replicate, getD-replicate}
+use lib.Seq.{getD-set-same, getD-set-other, getD-take, drop-cons, drop-length}
+use borrow.Author.Tests.{eq-eqb, ne-eqb}
 use Rattle.plan.specs.Choice.{if_then_else_}
 use Rattle.plan.specs.Limits.{mostRecords}
-use Rattle.plan.specs.APlan.{blank, firstThat, placeFrom, recordsOf, is, link, wait, gapOf, linkTo}
+use Rattle.plan.specs.APlan.{blank, firstThat, recordsOf, is, link, wait, endsAt, gapOf, linkTo}
 use Rattle.numbers.specs.declared.Gap.{Gap}
 use Rattle.records.specs.declared.Record.{Record}
 use Rattle.plan.specs.declared.Plan.{Plan}
-use Rattle.plan.specs.declared.Found.{Found}
-use Rattle.plan.specs.declared.Found.the-variants.{At, Nothing}
 use Rattle.rows.specs.declared.sheet.Row.{Row}
 use Rattle.rows.specs.Sheet.{width, sheetRoom}
-use Rattle.rows.specs.Layout.{rowOf, RowIs, stored, LaidOut}
+use Rattle.rows.specs.Layout.{rowFrom, rowOf, bytes, Starts, RowIs, stored, LaidOut}
 
 -- row q of the sheet is written, and no other
 pub record Written (q : ℕ) (x : Row) (s s′ : List ℕ) : Type 0 where
@@ -91,32 +91,6 @@ module _ (q : ℕ) (x : Row) (s : List ℕ) (h : q < mostRecords) (long : length
         over = far (q′ * width + 5) (x′ .over) (apart q′ 5 n (omega arith)) (r .over);
       }
 
--- the record at the place of the first that is so is that record
-pub at-place : (so : Record → Bool) (k i : ℕ) (rs : List Record) → placeFrom k so rs ≡ At i → (k ≤ i) × (i < k + length rs) × (getD rs (i - k) blank ≡ firstThat so rs)
-unfolding placeFrom firstThat
-at-place so k i [] e = absurd (let z : _≡_ {A = ℕ} 0 1 = cc in omega arith)
-at-place so k i (r ∷ rs) e = go (so r) refl (λ h. at-place so (suc k) i rs h)
-  where
-    go : (b : Bool) → so r ≡ b → (placeFrom (suc k) so rs ≡ At i → (suc k ≤ i) × (i < suc k + length rs) × (getD rs (i - suc k) blank ≡ firstThat so rs)) → (k ≤ i) × (i < k + length (r ∷ rs)) × (getD (r ∷ rs) (i - k) blank ≡ (if so r then r else firstThat so rs))
-    go true h _ =
-        let e′ : At k ≡ At i = rw h at e in
-        let f : k ≡ i = cc in
-        let z : i - k ≡ 0 = omega arith in
-        (omega arith, omega arith, rw (h, z) refl)
-    go false h ih =
-        let r′ = ih (rw h at e) in
-        let z : i - k ≡ suc (i - suc k) = omega arith in
-        (omega arith, omega arith, rw (h, z) (r′ .2))
-
-pub no-place : (so : Record → Bool) (k : ℕ) (rs : List Record) → placeFrom k so rs ≡ Nothing → firstThat so rs ≡ blank
-unfolding placeFrom firstThat
-no-place so k [] e = refl
-no-place so k (r ∷ rs) e = go (so r) refl (λ h. no-place so (suc k) rs h)
-  where
-    go : (b : Bool) → so r ≡ b → (placeFrom (suc k) so rs ≡ Nothing → firstThat so rs ≡ blank) → (if so r then r else firstThat so rs) ≡ blank
-    go true h _ = absurd (let e′ : At k ≡ Nothing = rw h at e in let z : _≡_ {A = ℕ} 0 1 = cc in omega arith)
-    go false h ih = rw h (ih (rw h at e))
-
 -- the rows below q
 pub record Laying (rs : List Record) (q : ℕ) (s : List ℕ) : Type 0 where
   pub long : length s ≡ sheetRoom
@@ -134,22 +108,69 @@ turn {rs} {q} {s} {s′} l w = record { long = w .long; rows = rows }
 pub ended : {rs : List Record} {q : ℕ} {s : List ℕ} → length rs ≤ q → Laying rs q s → LaidOut rs s
 ended h l = record { rows = λ q k. l .rows q (omega arith) }
 
--- the A of the link at the place that was found
-module _ (p : Plan) (so : Record → Bool) (few : p .count ≤ mostRecords) (long : length (p .records) ≡ mostRecords) where
-  pub in-plan : {f : Found} {i : ℕ} → f ≡ placeFrom 0 so (recordsOf p) → f ≡ At i → i < mostRecords
-  in-plan {f} {i} e h = let r = at-place so 0 i (recordsOf p) (sym e ∙ h) in omega (arith, r .1, length-take (p .count) (p .records))
+-- ---- where links start
 
-  pub found-there : {f : Found} {i : ℕ} → f ≡ placeFrom 0 so (recordsOf p) → f ≡ At i → getD (p .records) i blank ≡ firstThat so (recordsOf p)
-  found-there {f} {i} e h =
-      let r = at-place so 0 i (recordsOf p) (sym e ∙ h) in
-      let z : i - 0 ≡ i = omega arith in
-      sym (getD-take (p .count) (p .records) i blank (omega (arith, r .1, length-take (p .count) (p .records)))) ∙ (rw z at (r .2))
+-- of the records from place q on
+pub record Starting (p : Plan) (t : List ℕ) (q : ℕ) : Type 0 where
+  pub room : length (p .records) ≡ mostRecords
+  pub few : p .count ≤ mostRecords
+  pub within : q ≤ p .count
+  pub long : length t ≡ bytes
+  pub each : (c : ℕ) → c < bytes → getD t c 0 ≡ linkTo (drop q (recordsOf p)) c .a
 
-  pub found-nowhere : {f : Found} → f ≡ placeFrom 0 so (recordsOf p) → f ≡ Nothing → firstThat so (recordsOf p) ≡ blank
-  found-nowhere e h = no-place so 0 (recordsOf p) (sym e ∙ h)
+pub starting-none : {p : Plan} → length (p .records) ≡ mostRecords → p .count ≤ mostRecords → Starting p (replicate bytes 0) (p .count)
+unfolding firstThat
+starting-none {p} room few =
+    record {
+      room = room;
+      few = few;
+      within = omega arith;
+      long = length-replicate {A = ℕ} bytes 0;
+      each = λ c h. getD-replicate {A = ℕ} bytes c 0 0 h ∙ sym (rw none refl);
+    }
+  where
+    none : drop (p .count) (recordsOf p) ≡ []
+    none =
+        let e : p .count ≡ length (recordsOf p) = omega (arith, length-take (p .count) (p .records)) in
+        ap (λ (k : ℕ). drop k (recordsOf p)) e ∙ drop-length (recordsOf p)
+
+module _ {p : Plan} {t : List ℕ} {q : ℕ} (s : Starting p t q) (h : 0 < q) where
+  abbrev r : Record
+  r = getD (p .records) (q - 1) blank
+
+  at-hand : drop (q - 1) (recordsOf p) ≡ getD (p .records) (q - 1) blank ∷ drop q (recordsOf p)
+  at-hand =
+      let z : suc (q - 1) ≡ q = omega arith in
+      let l : q - 1 < length (recordsOf p) = omega (arith, length-take (p .count) (p .records), s .room, s .few, s .within) in
+      drop-cons (recordsOf p) (q - 1) blank l
+      ∙ rw (z, getD-take (p .count) (p .records) (q - 1) blank (omega (arith, s .within))) refl
+
+  pub starting-more : {v : ℕ} → getD (p .records) (q - 1) blank .b < bytes → v ≡ (if is link (getD (p .records) (q - 1) blank) then getD (p .records) (q - 1) blank .a else getD t (getD (p .records) (q - 1) blank .b) 0)
+      → Starting p (set t (getD (p .records) (q - 1) blank .b) v) (q - 1)
+  unfolding firstThat
+  starting-more {v} b e =
+      record { room = s .room; few = s .few; within = omega (arith, s .within); long = simp length-set (s .long); each = λ c l. rw at-hand (each c l (ℕ-discrete c (r .b))) }
+    where
+      own : (k : Bool) → is link (getD (p .records) (q - 1) blank) ≡ k
+          → (if k then getD (p .records) (q - 1) blank .a else getD t (getD (p .records) (q - 1) blank .b) 0)
+          ≡ (if k && eqb (getD (p .records) (q - 1) blank .b) (getD (p .records) (q - 1) blank .b) then getD (p .records) (q - 1) blank else firstThat (endsAt (getD (p .records) (q - 1) blank .b)) (drop q (recordsOf p))) .a
+      own true k = rw (eq-eqb (r .b) (r .b) refl) refl
+      own false k = s .each (r .b) b
+
+      passed : (k : Bool) (x y : Record) → (if k && false then x else y) .a ≡ y .a
+      passed true x y = refl
+      passed false x y = refl
+
+      each : (c : ℕ) → c < bytes → Dec (c ≡ getD (p .records) (q - 1) blank .b)
+          → getD (set t (getD (p .records) (q - 1) blank .b) v) c 0 ≡ firstThat (endsAt c) (getD (p .records) (q - 1) blank ∷ drop q (recordsOf p)) .a
+      each c l (yes i) = rw i (getD-set-same t (r .b) v 0 (omega (arith, s .long)) ∙ e ∙ own (is link r) refl)
+      each c l (no i) = getD-set-other t (r .b) c v 0 i ∙ s .each c l ∙ sym (rw (ne-eqb c (r .b) i) (passed (is link r) r (firstThat (endsAt c) (drop q (recordsOf p)))))
+
+pub starting-all : {p : Plan} {t : List ℕ} {q : ℕ} → Starting p t q → q ≡ 0 → Starts (recordsOf p) t
+starting-all s e = record { long = s .long; each = rw e at (s .each) }
 
 -- the row of the record that the code reads
-pub laid-row : (p : Plan) (q : ℕ) {x : Row} {s s′ : List ℕ} → p .count ≤ mostRecords → q < p .count → length s ≡ sheetRoom → x ≡ rowOf (recordsOf p) (getD (p .records) q blank) → s′ ≡ stored s q x
+laid-row : (p : Plan) (q : ℕ) {x : Row} {s s′ : List ℕ} → p .count ≤ mostRecords → q < p .count → length s ≡ sheetRoom → x ≡ rowOf (recordsOf p) (getD (p .records) q blank) → s′ ≡ stored s q x
     → Written q (rowOf (recordsOf p) (getD (recordsOf p) q blank)) s s′
 laid-row p q {x} {s} few h long e w = rw (getD-take (p .count) (p .records) q blank h, ← e, w) (written q x s (omega arith) long)
 
@@ -157,8 +178,17 @@ pub records-in : (p : Plan) {q : ℕ} → length (p .records) ≡ mostRecords �
 records-in p long few h = omega (arith, length-take (p .count) (p .records))
 
 -- a row put together from its parts
-pub row-is : (rs : List Record) (r : Record) {k f t x y o a′ a up down : ℕ} {g g′ : Gap}
-    → k ≡ r .kind → f ≡ r .a → o ≡ r .b → a′ ≡ linkTo rs (r .b) .a → a ≡ a′ → t ≡ (if is wait r then a else o)
+pub row-is : (r : Record) (start : ℕ) {k f t x y o a up down : ℕ} {g g′ : Gap}
+    → k ≡ r .kind → f ≡ r .a → o ≡ r .b → a ≡ start → t ≡ (if is wait r then a else o)
     → g ≡ gapOf (r .first) → g′ ≡ gapOf (r .second) → x ≡ g .up → up ≡ g′ .up → down ≡ g .down → y ≡ (if is link r then up else down)
-    → record { kind = k; from = f; to = t; first = x; second = y; over = o } ≡ rowOf rs r
-row-is rs r ek ef eo ea′ ea et eg eg′ ex eu ed ey = rw (ek, ef, et, ex, ey, eo, eu, ed, ea, ea′, eg, eg′) refl
+    → record { kind = k; from = f; to = t; first = x; second = y; over = o } ≡ rowFrom r start
+row-is r start ek ef eo ea et eg eg′ ex eu ed ey = rw (ek, ef, et, ex, ey, eo, eu, ed, ea, eg, eg′) refl
+
+-- by the table of starts it is the record's row
+started-row : {rs : List Record} {t : List ℕ} (r : Record) {x : Row} → Starts rs t → r .b < bytes → x ≡ rowFrom r (getD t (r .b) 0) → x ≡ rowOf rs r
+started-row r s b e = e ∙ ap (rowFrom r) (s .each (r .b) b)
+
+-- so the row that the code writes is the one of the record that it reads
+pub laid-started : (p : Plan) (q : ℕ) {t : List ℕ} {x : Row} {s s′ : List ℕ} → p .count ≤ mostRecords → q < p .count → length s ≡ sheetRoom → Starts (recordsOf p) t → getD (p .records) q blank .b < bytes
+    → x ≡ rowFrom (getD (p .records) q blank) (getD t (getD (p .records) q blank .b) 0) → s′ ≡ stored s q x → Written q (rowOf (recordsOf p) (getD (recordsOf p) q blank)) s s′
+laid-started p q few h long starts b e w = laid-row p q few h long (started-row (getD (p .records) q blank) starts b e) w

@@ -9,16 +9,28 @@ use Rattle.records.specs.declared.Record.{Record}
 use Rattle.rows.specs.declared.sheet.Row.{Row}
 use Rattle.rows.specs.Sheet.{kindAt, fromAt, toAt, firstAt, secondAt, overAt, width}
 
-abbrev pub rowOf : List Record → Record → Row
-rowOf rs r =
+-- the row of the record r, where start is the A of the link that ends at its second point
+abbrev pub rowFrom : Record → ℕ → Row
+rowFrom r start =
     record {
       kind = r .kind;
       from = r .a;
-      to = if is wait r then linkTo rs (r .b) .a else r .b;
+      to = if is wait r then start else r .b;
       first = gapOf (r .first) .up;
       second = if is link r then gapOf (r .second) .up else gapOf (r .first) .down;
       over = r .b;
     }
+
+abbrev pub rowOf : List Record → Record → Row
+rowOf rs r = rowFrom r (linkTo rs (r .b) .a)
+
+-- t has the A of the link that ends at each point, by its byte
+abbrev pub bytes : ℕ
+bytes = 256
+
+pub record Starts (rs : List Record) (t : List ℕ) : Type 0 where
+  pub long : length t ≡ bytes
+  pub each : (c : ℕ) → c < bytes → getD t c 0 ≡ linkTo rs c .a
 
 -- row q of the sheet is x
 pub record RowIs (s : List ℕ) (q : ℕ) (x : Row) : Type 0 where

@@ -3,20 +3,21 @@ ghost use mathlib.Core.Path.{_≡_};
 ghost use Prim.Native.Nat.{_≤_, _<_};
 ghost use lib.ListN.{length};
 ghost use Rattle.plan.specs.Choice.{if_then_else_};
-ghost use Rattle.plan.specs.APlan.{recordsOf, linkTo};
+ghost use Rattle.plan.specs.APlan.{recordsOf};
 ghost use Rattle.plan.specs.Limits.{mostRecords};
 ghost use Rattle.rows.specs.Sheet.{sheetRoom};
-ghost use Rattle.rows.specs.Layout.{rowOf, stored, LaidOut};
+ghost use Rattle.rows.specs.Layout.{rowFrom, Starts, stored, LaidOut};
 use crate::sheet::Row;
 use crate::sheet::SHEET;
 use crate::sheet::WIDTH;
-use plan::Found;
 use plan::LINK;
 use plan::Plan;
 use plan::Record;
 use plan::WAIT;
-use plan::link_to;
 use plan::split;
+
+// How many numbers a byte can be.
+const BYTES: usize = 256;
 
 fn byte(x: u8) -> u64
     ensures { λ r. ⌜ r ≡ x ⌝ }
@@ -37,34 +38,41 @@ fn pick(so: bool, a: u64, b: u64) -> u64
     if so { a } else { b }
 }
 
-// The A of the link that ends at `c`; 0 where none does.
-fn start_of(plan: Plan, c: u8) -> u8
-    requires { ⌜ plan .count ≤ mostRecords ⌝ }
-    ensures { λ a. ⌜ a ≡ linkTo (recordsOf plan) c .a ⌝ }
+fn pick_byte(so: bool, a: u8, b: u8) -> u8
+    ensures { λ r. ⌜ r ≡ (if so then a else b) ⌝ }
 {
-    match link_to(plan, c) {
-        Found::At(i) => {
-            let r = plan.records[i as usize];
-            r.a
-        }
-        Found::Nothing => 0,
-    }
+    if so { a } else { b }
 }
 
-// The row of a record.
-fn row_of(plan: Plan, r: Record) -> Row
+// The A of the link that ends at each point, by the point's byte, 0 where none does: from the last record to the first, since the
+// first link counts. One pass for the whole plan, so that laying it out does not look for a link in each row.
+fn starts_of(plan: Plan) -> [u8; BYTES]
     requires { ⌜ plan .count ≤ mostRecords ⌝ }
-    ensures { λ x. ⌜ x ≡ rowOf (recordsOf plan) r ⌝ }
+    ensures { λ t. ⌜ Starts (recordsOf plan) t ⌝ }
+{
+    let mut starts = [0u8; BYTES];
+    let mut left = plan.count as usize;
+    while 0 < left {
+        left -= 1;
+        let r = plan.records[left];
+        let c = r.b as usize;
+        starts[c] = pick_byte(r.kind == LINK, r.a, starts[c]);
+    }
+    starts
+}
+
+// The row of a record, where `start` is the A of the link that ends at its second point.
+fn row_of(r: Record, start: u8) -> Row
+    ensures { λ x. ⌜ x ≡ rowFrom r start ⌝ }
 {
     let first = split(r.first);
     let second = split(r.second);
     let from = byte(r.a);
     let over = byte(r.b);
-    let start = byte(start_of(plan, r.b));
     Row {
         kind: byte(r.kind),
         from: from,
-        to: pick(r.kind == WAIT, start, over),
+        to: pick(r.kind == WAIT, byte(start), over),
         first: word(first.up),
         second: pick(r.kind == LINK, word(second.up), word(first.down)),
         over: over,
@@ -90,9 +98,10 @@ pub fn lay_out(plan: Plan, sheet: &mut [u64; SHEET])
     requires { ⌜ (plan .count ≤ mostRecords) × (length (now sheet) ≡ sheetRoom) ⌝ }
     ensures { λ _. ⌜ LaidOut (recordsOf plan) (now (sheet .exit)) ⌝ }
 {
+    let starts = starts_of(plan);
     let count = plan.count as usize;
     for q in 0..count {
         let r = plan.records[q];
-        write_row(&mut *sheet, q, row_of(plan, r));
+        write_row(&mut *sheet, q, row_of(r, starts[r.b as usize]));
     }
 }

@@ -1,9 +1,7 @@
--- `vee::layout::row_of` meets its contract. Assumes nothing.
+-- `rows::layout::row_of` meets its contract. Assumes nothing.
 use mir.Syntax.{w32}
 use mir.ValLaws.{toZ-ofZ}
-use Rattle.plan.specs.APlan.{recordsOf}
 use Rattle.rows.proofs.Layouts.{row-is}
-use native.Mathlib.Omega.{arith}
 use borrow.Author.Needs.{needs, sfits-of}
 use Rattle.rows.proofs.layout.row_of.Statement.{statement}
 use Rattle.rows.proofs.layout.row_of.Tie as tie
@@ -19,9 +17,6 @@ byte-requires c κs = search needs
 
 byte-requires-2 : tie.Need-byte-requires-2
 byte-requires-2 c κs = search needs
-
-start-of-requires : tie.Need-start-of-requires
-start-of-requires c κs = search needs
 
 byte-requires-3 : tie.Need-byte-requires-3
 byte-requires-3 c κs = search needs
@@ -45,7 +40,7 @@ pick-requires-2 : tie.Need-pick-requires-2
 pick-requires-2 c κs = search needs
 
 returns : tie.Need-returns
-returns c = row-is (recordsOf (c .before .before .before .before .before .before .before .before .before .before .before .before .before .before .before .before .args .plan)) (c .before .before .before .before .before .before .before .before .before .before .before .before .before .before .before .before .args .r) (c .before .before .before .before .before .before .before .byte4 .ensures) (c .before .before .before .before .before .before .before .before .before .before .before .byte .ensures) (c .before .before .before .before .before .before .before .before .before .before .byte2 .ensures) (c .before .before .before .before .before .before .before .before .before .start-of .ensures) (c .before .before .before .before .before .before .before .before .byte3 .ensures) (c .before .before .before .before .before .pick .ensures) (rw (toZ-ofZ w32 (c .before .before .before .before .before .before .before .before .before .before .before .before .before .before .before .before .args .r .first) (sfits-of (c .before .before .before .before .before .before .before .before .before .before .before .before .before .before .before .struct-told .given .1 .1 .1 .0 .1))) at (c .before .before .before .before .before .before .before .before .before .before .before .before .before .before .split .ensures)) (rw (toZ-ofZ w32 (c .before .before .before .before .before .before .before .before .before .before .before .before .before .before .before .before .args .r .second) (sfits-of (c .before .before .before .before .before .before .before .before .before .before .before .before .before .struct-told2 .given .1 .1 .1 .1 .0 .1))) at (c .before .before .before .before .before .before .before .before .before .before .before .before .split2 .ensures)) (c .before .before .before .before .word .ensures) (c .before .before .word2 .ensures) (c .before .word3 .ensures) (c .pick2 .ensures)
+returns c = row-is (c .before .before .before .before .before .before .before .before .before .before .before .before .before .before .before .args .r) (c .before .before .before .before .before .before .before .before .before .before .before .before .before .before .before .args .start) (c .before .before .before .before .before .before .before .before .byte3 .ensures) (c .before .before .before .before .before .before .before .before .before .before .byte .ensures) (c .before .before .before .before .before .before .before .before .before .byte2 .ensures) (c .before .before .before .before .before .before .byte4 .ensures) (c .before .before .before .before .before .pick .ensures) (rw (toZ-ofZ w32 (c .before .before .before .before .before .before .before .before .before .before .before .before .before .before .before .args .r .first) (sfits-of (c .before .before .before .before .before .before .before .before .before .before .before .before .before .before .struct-told .given .1 .1 .1 .0 .1))) at (c .before .before .before .before .before .before .before .before .before .before .before .before .before .split .ensures)) (rw (toZ-ofZ w32 (c .before .before .before .before .before .before .before .before .before .before .before .before .before .before .before .args .r .second) (sfits-of (c .before .before .before .before .before .before .before .before .before .before .before .before .struct-told2 .given .1 .1 .1 .1 .0 .1))) at (c .before .before .before .before .before .before .before .before .before .before .before .split2 .ensures)) (c .before .before .before .before .word .ensures) (c .before .before .word2 .ensures) (c .before .word3 .ensures) (c .pick2 .ensures)
 
 pub row-of-spec : {M : Type 1} → statement M
 row-of-spec =
@@ -55,7 +50,6 @@ row-of-spec =
     split-requires-2
     byte-requires
     byte-requires-2
-    start-of-requires
     byte-requires-3
     byte-requires-4
     pick-requires

@@ -25,6 +25,7 @@ use Rattle.listing.specs.Inside.{lineBy, lineAt, oneIf, scanned, fullByt
 use Rattle.listing.specs.declared.Line.{Line}
 use Rattle.listing.specs.declared.Gone.{Gone}
 use Rattle.listing.specs.declared.Packed.{Packed}
+use Rattle.listing.proofs.AText.{octal}
 
 -- ---- numbers of bad lines
 

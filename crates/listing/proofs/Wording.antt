@@ -76,7 +76,7 @@ store done g n cells i v ev c l p k j h m = by-test (ltb j (length done)) refl
         rw (y, getD-at done g [] [] i x) (getD-set-same cells i v _ (omega arith) ∙ ev)
 
 module _ (text : List ℕ) (b : All IsByte text) (at from n : ℕ) (cells : List Word) (w : Worded text at from n cells)
-  (f : Found) (e : f ≡ found text from) (t : Bool) (q : t ≡ eqb (f .word .seen .count) 0) where
+    (f : Found) (e : f ≡ found text from) (t : Bool) (q : t ≡ eqb (f .word .seen .count) 0) where
   next : Next text from f
   next = rw e (next-word text b from)
 

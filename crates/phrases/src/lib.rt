@@ -93,7 +93,11 @@ pub fn is_point_or_none(s: Seen) -> bool
 pub fn point_or_none(s: Seen) -> u32
     ensures { λ p. ⌜ p ≡ pointOrNoneBy s ⌝ }
 {
-    if is_none(s) { 255 } else { (s.size % 256) as u32 }
+    if is_none(s) {
+        255
+    } else {
+        (s.size % 256) as u32
+    }
 }
 
 impl Word {

@@ -71,21 +71,57 @@ fn places_of(k: u8) -> Places
     ensures { λ p. ⌜ p ≡ placesOf k ⌝ }
 {
     if k == POINT {
-        return Places { count: 3, first: A_POINT, second: A_COUNT, third: 0, fourth: 0 };
+        return Places {
+            count: 3,
+            first: A_POINT,
+            second: A_COUNT,
+            third: 0,
+            fourth: 0,
+        };
     }
     if k == LINK {
-        return Places { count: 5, first: A_POINT, second: A_NUMBER, third: A_NUMBER, fourth: A_POINT };
+        return Places {
+            count: 5,
+            first: A_POINT,
+            second: A_NUMBER,
+            third: A_NUMBER,
+            fourth: A_POINT,
+        };
     }
     if k == ORDINARY {
-        return Places { count: 4, first: A_POINT, second: A_NUMBER, third: A_POINT, fourth: 0 };
+        return Places {
+            count: 4,
+            first: A_POINT,
+            second: A_NUMBER,
+            third: A_POINT,
+            fourth: 0,
+        };
     }
     if k == WAIT {
-        return Places { count: 4, first: A_POINT, second: A_POINT, third: A_NUMBER, fourth: 0 };
+        return Places {
+            count: 4,
+            first: A_POINT,
+            second: A_POINT,
+            third: A_NUMBER,
+            fourth: 0,
+        };
     }
     if k == MARK {
-        return Places { count: 1, first: 0, second: 0, third: 0, fourth: 0 };
+        return Places {
+            count: 1,
+            first: 0,
+            second: 0,
+            third: 0,
+            fourth: 0,
+        };
     }
-    Places { count: 4, first: A_COUNT, second: A_POINT_OR_NONE, third: A_SET, fourth: 0 }
+    Places {
+        count: 4,
+        first: A_COUNT,
+        second: A_POINT_OR_NONE,
+        third: A_SET,
+        fourth: 0,
+    }
 }
 
 // The word is what is expected.

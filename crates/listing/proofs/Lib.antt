@@ -4,3 +4,4 @@ mod Wording
 mod Going
 mod Putting
 pub mod Theorems
+pub mod Typed

@@ -1,6 +1,6 @@
 -- What a line says fits its place in the record, so its bytes are read as it. Assumes nothing.
 use mathlib.Core.Path.{_≡_, refl, sym, ap, _∙_}
-use mathlib.Core.Bool.{Bool, true, false, not}
+use mathlib.Core.Bool.{Bool, true, false, not, _||_}
 use mathlib.Core.List.{List, [], _∷_, append-nil}
 use Prim.Native.Nat.{ℕ, _^_, _<_}
 use native.Mathlib.Omega.{arith}
@@ -10,6 +10,7 @@ use lib.ListN.{length}
 use lib.Signed.{mag}
 use borrow.Author.Tests.{eqb-true, ltb-true}
 use Rattle.numbers.specs.Choice.{if_then_else_}
+use Rattle.numbers.proofs.Words.{word-back}
 use Rattle.records.specs.Bytes.{recordIn, bytesOf}
 use Rattle.records.specs.Held.{Held}
 use Rattle.records.specs.declared.Record.{Record}
@@ -17,13 +18,16 @@ use Rattle.records.proofs.Bytes.{record-back}
 use Rattle.values.specs.Values.{isEmpty, allDigits}
 use Rattle.values.proofs.Tests.{both}
 use Rattle.values.proofs.Fit.{number-fits}
+use Rattle.points.specs.Sets.{withOf}
+use Rattle.points.proofs.Laws.{with-fits}
+use Rattle.phrases.specs.Phrases.{isComma, cut, isNone, setFrom}
 use Rattle.sayings.specs.Sayings.{aPoint, aNumber, aCount, aPointOrNone, aSet, expected, holds, firstWrong, pointRecord, linkRecord, ordinaryRecord, waitRecord, word, saidBy, rowOf}
-use Rattle.sayings.specs.Sayings.{Row, bad, good, kindOf, isBelow, valueOf, numberOf}
+use Rattle.sayings.specs.Sayings.{Row, bad, good, kindOf, isBelow, valueOf, numberOf, pointOrNone, setOf}
 use Rattle.sayings.specs.declared.Said.{Said}
 use Rattle.sayings.specs.declared.Said.the-variants.{Nothing, Plan, Mark, Event}
 use Rattle.sayings.proofs.Telling.{Each, each-holds, few}
 use Rattle.listing.specs.Listing.{wordsOf, lineRow, bytesSaid}
-use Rattle.listing.specs.Promised.{ReadAsTyped, NoOtherRecord}
+use Rattle.listing.specs.Promised.{ReadAsTyped, NoOtherRecord, EventAsTyped}
 
 -- ---- one word
 
@@ -42,6 +46,26 @@ number-held : (f : List ℕ) → holds aNumber f ≡ true → mag (numberOf f) <
 unfolding holds
 number-held f e = number-fits f e
 
+none-fits : (f : List ℕ) → holds aPointOrNone f ≡ true → pointOrNone f < 256
+unfolding holds
+none-fits f e = go (isNone f) e
+  where
+    go : (t : Bool) → (t || isBelow 255 f) ≡ true → (if t then 255 else valueOf f) < 256
+    go true q = omega arith
+    go false q = let b = below 255 f q in omega arith
+
+set-from-fits : (s : ℕ) (fs : List (List ℕ)) → s < 2 ^ 32 → setFrom s fs < 2 ^ 32
+unfolding setFrom
+set-from-fits s [] h = h
+set-from-fits s (f ∷ fs) h = set-from-fits (withOf s (valueOf f)) fs (with-fits s (valueOf f) h)
+
+set-fits : (f : List ℕ) → setOf f < 2 ^ 32
+set-fits f = go (isNone f)
+  where
+    go : (t : Bool) → (if t then 0 else setFrom 0 (cut isComma f)) < 2 ^ 32
+    go true = omega arith
+    go false = set-from-fits 0 (cut isComma f) (omega arith)
+
 -- ---- what a kind says
 
 -- a record of a plan fits its fields
@@ -49,7 +73,7 @@ abbrev HeldSaid : Said → Type 0
 HeldSaid Nothing = Unit {0}
 HeldSaid (Plan r) = Held r
 HeldSaid Mark = Unit {0}
-HeldSaid (Event m p s) = Unit {0}
+HeldSaid (Event m p s) = (m < 2 ^ 32) × (p < 256) × (s < 2 ^ 32)
 
 -- where the words are what is expected
 abbrev Fits : List (List ℕ) → List ℕ → Said → Type 0
@@ -115,12 +139,19 @@ wait-held (f ∷ []) l e = absurd (omega arith)
 wait-held (f ∷ g ∷ []) l e = absurd (omega arith)
 wait-held (f ∷ g ∷ x ∷ y ∷ gs) l e = absurd (omega arith)
 
+event-held : (gs : List (List ℕ)) → Fits gs (aCount ∷ aPointOrNone ∷ aSet ∷ []) (Event (valueOf (word 0 gs)) (pointOrNone (word 1 gs)) (setOf (word 2 gs)))
+event-held (f ∷ g ∷ x ∷ []) l e = (count-fits f (e .0), none-fits g (e .1 .0), set-fits x)
+event-held [] l e = absurd (omega arith)
+event-held (f ∷ []) l e = absurd (omega arith)
+event-held (f ∷ g ∷ []) l e = absurd (omega arith)
+event-held (f ∷ g ∷ x ∷ y ∷ gs) l e = absurd (omega arith)
+
 kind-held : (k : ℕ) (gs : List (List ℕ)) → Fits gs (expected k) (saidBy k gs)
 unfolding expected saidBy
 kind-held k gs =
     choice gs (eqb k 1) _ _ _ _ (point-held gs)
     (choice gs (eqb k 2) _ _ _ _ (link-held gs)
-    (choice gs (eqb k 3) _ _ _ _ (ordinary-held gs) (choice gs (eqb k 4) _ _ _ _ (wait-held gs) (choice gs (eqb k 5) _ _ _ _ (λ l e. tt) (λ l e. tt)))))
+    (choice gs (eqb k 3) _ _ _ _ (ordinary-held gs) (choice gs (eqb k 4) _ _ _ _ (wait-held gs) (choice gs (eqb k 5) _ _ _ _ (λ l e. tt) (event-held gs)))))
 
 -- ---- a line
 
@@ -156,3 +187,19 @@ read-as-typed l r e = rw (append-nil (bytesOf r)) at (record-back r (row-held (w
 
 pub no-other-record : NoOtherRecord
 no-other-record l m r q e f h = sym (read-as-typed l r e) ∙ ap recordIn h ∙ read-as-typed m q f
+
+pub event-as-typed : EventAsTyped
+event-as-typed l m p s e =
+    let h = row-held (wordsOf l) (Event m p s) e in
+    let hm : m < 2 ^ 32 = h .0 in
+    let hp : p < 256 = h .1 in
+    let hs : s < 2 ^ 32 = h .2 in
+    record {
+      at-0 = word-back m hm [];
+      at-4 = omega arith;
+      at-5 = omega arith;
+      at-6 = omega arith;
+      at-7 = omega arith;
+      at-8 = word-back s hs [];
+      at-12 = refl;
+    }

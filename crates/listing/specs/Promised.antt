@@ -65,3 +65,17 @@ ReadAsTyped = (l : List ℕ) (r : Record) → lineRow l ≡ good (Plan r) → re
 -- No line is read as another record: lines that say different records of a plan are packed to different bytes.
 abbrev pub NoOtherRecord : Type 0
 NoOtherRecord = (l m : List ℕ) (r q : Record) → lineRow l ≡ good (Plan r) → lineRow m ≡ good (Plan q) → bytesSaid (Plan r) ≡ bytesSaid (Plan q) → r ≡ q
+
+-- sixteen bytes as an event: the minute, the point (255 for none), the set, and all else zero
+pub record ReadsAs (bytes : List ℕ) (minute point set : ℕ) : Type 0 where
+  pub at-0 : wordAt bytes 0 ≡ minute
+  pub at-4 : getD bytes 4 0 ≡ point
+  pub at-5 : getD bytes 5 0 ≡ 0
+  pub at-6 : getD bytes 6 0 ≡ 0
+  pub at-7 : getD bytes 7 0 ≡ 0
+  pub at-8 : wordAt bytes 8 ≡ set
+  pub at-12 : wordAt bytes 12 ≡ 0
+
+-- What the programs read in the sixteen bytes of a line's event is the event that the line says.
+abbrev pub EventAsTyped : Type 0
+EventAsTyped = (l : List ℕ) (m p s : ℕ) → lineRow l ≡ good (Event m p s) → ReadsAs (bytesSaid (Event m p s)) m p s

@@ -23,6 +23,7 @@ use Rattle.sayings.specs.declared.Places.{Places}
 use Rattle.sayings.specs.declared.Told.{Told}
 use Rattle.sayings.specs.declared.Said.{Said}
 use Rattle.sayings.specs.declared.Said.the-variants.{Plan, Mark, Event}
+use Rattle.sayings.proofs.ARow.{octal}
 
 -- what is kept of a word
 abbrev pub wordOf : List ℕ → Word

@@ -25,6 +25,7 @@ use Rattle.listing.specs.Inside.{lineBy, lineAt, oneIf, scanned, fullByt
 use Rattle.listing.specs.declared.Line.{Line}
 use Rattle.listing.specs.declared.Gone.{Gone}
 use Rattle.listing.specs.declared.Packed.{Packed}
+use Rattle.listing.proofs.AText.{octal}
 
 -- ---- numbers of bad lines
 
@@ -47,7 +48,7 @@ unless-bad n x k e = go (eqb n 0) refl e
         go-on n (suc k) y e = omega arith
 
 -- a bad line has a number
-bad-some : (fs : List (List ℕ)) (k : ℕ) → rowOf fs ≡ bad k → 1 ≤ k
+pub bad-some : (fs : List (List ℕ)) (k : ℕ) → rowOf fs ≡ bad k → 1 ≤ k
 unfolding rowOf
 bad-some [] k e = absurd (let z : _≡_ {A = ℕ} 0 1 = cc in omega arith)
 bad-some (f ∷ fs) k e = go (eqb (kindOf f) 0) (eqb (length fs) (length (expected (kindOf f)))) e

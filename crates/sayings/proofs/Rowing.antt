@@ -10,6 +10,7 @@ use Rattle.sayings.specs.Inside.{placesOf, cell, wrongBy, saidIn, badRow
 use Rattle.sayings.specs.declared.Places.{Places}
 use Rattle.sayings.specs.declared.Told.{Told}
 use Rattle.sayings.specs.declared.Said.{Said}
+use Rattle.sayings.proofs.ARow.{octal}
 
 module _ (k n : ℕ) (cells : List Word) where
   pub row-none : k ≡ 0 → badRow aKind ≡ kindRow k n cells

@@ -23,6 +23,7 @@ use Rattle.sayings.specs.declared.Places.{Places}
 use Rattle.sayings.specs.declared.Told.{Told}
 use Rattle.sayings.specs.declared.Said.{Said}
 use Rattle.sayings.specs.declared.Said.the-variants.{Plan, Mark, Event}
+use Rattle.sayings.proofs.ARow.{octal}
 
 -- what is kept of a word
 abbrev pub wordOf : List ℕ → Word
@@ -172,7 +173,7 @@ list a b c d e =
     else aCount ∷ aPointOrNone ∷ aSet ∷ []
 
 -- no kind has more than four words behind its own, and none expects nothing
-few : (k : ℕ) → (length (expected k) ≤ 4) × All (λ n. 1 ≤ n) (expected k)
+pub few : (k : ℕ) → (length (expected k) ≤ 4) × All (λ n. 1 ≤ n) (expected k)
 unfolding expected
 few k = go (eqb k 1) (eqb k 2) (eqb k 3) (eqb k 4) (eqb k 5)
   where

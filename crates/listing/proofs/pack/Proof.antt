@@ -20,7 +20,7 @@ returns : tie.Need-returns
 returns c =
     let k = c .before .before .before in
     let a = k .before .before .before .args in
-    let x = pack-bad (a .text .now) (a .out .now) _ (k .scan .ensures) (c .before .if1 .taken) in
+    let x = pack-bad (a .text .now) (a .out .now) _ (k .scan .ensures) (λ z. omega (arith, c .before .if1 .taken, z)) in
     (c .told .ensures ∙ x .0, x .1)
 
 told-requires-2 : tie.Need-told-requires-2
@@ -31,7 +31,7 @@ returns-2 c =
     let i = c .before .before .before in
     let k = i .before .before in
     let a = k .before .before .before .args in
-    let x = pack-short (a .text .now) (a .out .now) _ (k .scan .ensures) (i .if1 .left) (omega (arith, c .before .if2 .taken)) in
+    let x = pack-short (a .text .now) (a .out .now) _ (k .scan .ensures) (omega (arith, i .if1 .left)) (omega (arith, c .before .if2 .taken)) in
     (c .told2 .ensures ∙ x .0, x .1)
 
 write-requires : tie.Need-write-requires
@@ -40,7 +40,7 @@ write-requires c κs =
     let e = i .before .before .scan .ensures in
     let n = ap (λ (x : Gone). x .number) e in
     let r = ap (λ (x : Gone). x .records) e in
-    (sym n ∙ i .if1 .left, omega (arith, r, c .before .if2 .left))
+    (omega (arith, n, i .if1 .left), omega (arith, r, c .before .if2 .left))
 
 mul-told : tie.Need-mul-told
 mul-told c = search needs
@@ -57,7 +57,7 @@ returns-3 c =
     let i = w .before .before .before .before in
     let k = i .before .before in
     let a = k .before .before .before .args in
-    let x = pack-good (a .text .now) (a .out .now) _ (k .scan .ensures) (i .if1 .left) (omega (arith, w .before .before .if2 .left)) in
+    let x = pack-good (a .text .now) (a .out .now) _ (k .scan .ensures) (omega (arith, i .if1 .left)) (omega (arith, w .before .before .if2 .left)) in
     (c .told3 .ensures ∙ x, w .write .ensures)
 
 pub pack-spec : {M : Type 1} → statement M

@@ -28,7 +28,7 @@ add-lines c =
 returns : tie.Need-returns Inv-loop μ-loop
 returns c =
     let k = c .before .before in
-    counted-bad _ _ _ _ (k .before .before .loop .inv .1) (k .before .loop-test .taken) _ (k .line-at .ensures) (c .if1 .taken)
+    counted-bad _ _ _ _ (k .before .before .loop .inv .1) (k .before .loop-test .taken) _ (k .line-at .ensures) (λ z. omega (arith, c .if1 .taken, z))
 
 one-if-requires : tie.Need-one-if-requires Inv-loop μ-loop
 one-if-requires c κs = search needs
@@ -42,14 +42,14 @@ loop-less : tie.Need-loop-less Inv-loop μ-loop
 loop-less c =
     let k = c .before .before .before in
     let i = k .before .before .loop .inv in
-    let m = counted-more _ _ _ _ (i .1) (k .before .loop-test .taken) _ (k .line-at .ensures) (c .before .if1 .left) _ (c .one-if .ensures .0) in
+    let m = counted-more _ _ _ _ (i .1) (k .before .loop-test .taken) _ (k .line-at .ensures) (omega (arith, c .before .if1 .left)) _ (c .one-if .ensures .0) in
     omega (arith, m .past)
 
 loop-again : tie.Need-loop-again Inv-loop μ-loop
 loop-again c =
     let k = c .before .before .before in
     let i = k .before .before .loop .inv in
-    let m = counted-more _ _ _ _ (i .1) (k .before .loop-test .taken) _ (k .line-at .ensures) (c .before .if1 .left) _ (c .one-if .ensures .0) in
+    let m = counted-more _ _ _ _ (i .1) (k .before .loop-test .taken) _ (k .line-at .ensures) (omega (arith, c .before .if1 .left)) _ (c .one-if .ensures .0) in
     (i .0, m .next)
 
 returns-2 : tie.Need-returns-2 Inv-loop μ-loop

@@ -1,8 +1,8 @@
 -- The walks over a text, one byte at a time. Assumes nothing.
 use mathlib.Core.Path.{_≡_, refl, sym, ap, _∙_}
-use mathlib.Core.Bool.{Bool, true, false, not}
+use mathlib.Core.Bool.{Bool, true, false, _&&_, not}
 use mathlib.Core.List.{List, [], _∷_}
-use Prim.Native.Nat.{ℕ, suc, _+_, _≤_, _<_}
+use Prim.Native.Nat.{ℕ, suc, _+_, _%_, _≤_, _<_}
 use native.Mathlib.Omega.{arith}
 use native.Mathlib.Numerals.{add-one}
 use lib.ListN.{length, drop, getD, drop-of-length-le}
@@ -10,7 +10,10 @@ use lib.Seq.{drop-cons}
 use borrow.Author.Tests.{eq-eqb, ne-eqb, not-true, not-false}
 use Rattle.numbers.specs.Choice.{if_then_else_}
 use Rattle.phrases.specs.Phrases.{isLf, beginsLf}
-use Rattle.phrases.specs.Inside.{withByte, blankBy, endsBy, blanksFrom, wordFrom, lineEnd}
+use Rattle.points.specs.Sets.{member, withOf}
+use Rattle.values.specs.Inside.{fresh}
+use Rattle.values.specs.declared.Seen.{Seen}
+use Rattle.phrases.specs.Inside.{belowIn, ended, withByte, blankBy, endsBy, blanksFrom, wordFrom, lineEnd}
 use Rattle.phrases.specs.declared.Word.{Word}
 use Rattle.phrases.specs.declared.Found.{Found}
 
@@ -69,3 +72,10 @@ module _ (s : List ℕ) (i : ℕ) where
 
     pub line-on : (getD s i 0 ≡ 10 → ⊥) → lineEnd (i + 1) (drop (i + 1) s) ≡ lineEnd i (drop i s)
     line-on n = rw (line-here, ne-eqb (getD s i 0) 10 n)
+
+-- the point that goes by ends, by the answers of the functions that are asked
+pub ended-by : (w : Word) (p : ℕ) → p ≡ w .point .size % 256 → (none : Seen) → none ≡ fresh → (set : ℕ) → set ≡ withOf (w .set) p → (b : Bool) → b ≡ belowIn 32 (w .point)
+    → (h : Bool) → h ≡ member (w .set) p
+    → _≡_ {A = Word} (record { seen = w .seen; set = set; good = w .good && (b && not h); point = none }) (ended w)
+unfolding ended
+ended-by w p ep none en set es b eb h eh = rw (es, eb, eh, ep, en)

@@ -1,6 +1,6 @@
 -- `phrases::Word::ended` meets its contract. Assumes nothing.
 use borrow.Author.Needs.{needs}
-use Rattle.phrases.specs.Inside.{ended}
+use Rattle.phrases.proofs.Turning.{ended-by}
 use Rattle.phrases.proofs.Word.ended.Statement.{statement}
 use Rattle.phrases.proofs.Word.ended.Tie as tie
 
@@ -20,10 +20,9 @@ has-requires : tie.Need-has-requires
 has-requires c κs = search needs
 
 returns : tie.Need-returns
-unfolding ended
 returns c =
     let k = c .before in
-    rw (k .has .ensures, k .before .is-below .ensures, k .before .before .with .ensures, k .before .before .before .none .ensures, k .before .before .before .before .point .ensures)
+    ended-by _ _ (k .before .before .before .before .point .ensures) _ (k .before .before .before .none .ensures) _ (k .before .before .with .ensures) _ (k .before .is-below .ensures) _ (k .has .ensures)
 
 pub ended-spec : {M : Type 1} → statement M
 ended-spec =

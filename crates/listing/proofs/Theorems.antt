@@ -14,7 +14,7 @@ use Rattle.sayings.specs.declared.Said.{Said}
 use Rattle.sayings.specs.declared.Said.the-variants.{Nothing, Plan, Mark, Event}
 use Rattle.listing.specs.Listing.{linesOf, wordsOf, Row, bad, good, lineRow, Outcome, refused, listed, inFront, behind, outcome, outcomeOf, allSaid, isShort, packed, written, aSet}
 use Rattle.listing.proofs.Going.{bad-some}
-use Rattle.listing.specs.Promised.{worded, answerOf, bufferOf, Packs, OneForEachLine, NothingUnlessGood, IsGood, Stops, FirstBadLine}
+use Rattle.listing.specs.Promised.{worded, Packs, OneForEachLine, NothingUnlessGood, IsGood, Stops, FirstBadLine}
 
 no : {A : Type 0} → _≡_ {A = ℕ} 0 1 → A
 no e = absurd (omega arith)

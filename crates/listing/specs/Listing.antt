@@ -70,3 +70,11 @@ packed room (listed xs) = if isShort room xs then answer aLongerBuffer 0 0 else 
 abbrev pub written : List ℕ → Outcome → List ℕ
 written out (refused k n) = out
 written out (listed xs) = if isShort (length out) xs then out else allSaid xs ++ drop (recordBytes * length xs) out
+
+-- what packing a text into a buffer answers
+abbrev pub answerOf : List ℕ → List ℕ → Packed
+answerOf text out = packed (length out) (outcomeOf text)
+
+-- the buffer after it
+abbrev pub bufferOf : List ℕ → List ℕ → List ℕ
+bufferOf text out = written out (outcomeOf text)

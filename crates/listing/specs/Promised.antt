@@ -11,21 +11,12 @@ use Rattle.records.specs.Bytes.{recordIn}
 use Rattle.records.specs.declared.Record.{Record}
 use Rattle.sayings.specs.declared.Said.{Said}
 use Rattle.sayings.specs.declared.Said.the-variants.{Plan, Event}
-use Rattle.listing.specs.Listing.{linesOf, wordsOf, Row, bad, good, lineRow, bytesSaid, outcomeOf, allSaid, packed, written, aSet}
-use Rattle.listing.specs.declared.Packed.{Packed}
+use Rattle.listing.specs.Listing.{linesOf, wordsOf, Row, bad, good, lineRow, bytesSaid, allSaid, answerOf, bufferOf, aSet}
 
 -- those lines that have words
 unfoldable pub worded : List (List ℕ) → List (List ℕ)
 worded [] = []
 worded (l ∷ ls) = if eqb (length (wordsOf l)) 0 then worded ls else l ∷ worded ls
-
--- what packing a text into a buffer answers
-abbrev pub answerOf : List ℕ → List ℕ → Packed
-answerOf text out = packed (length out) (outcomeOf text)
-
--- the buffer after it
-abbrev pub bufferOf : List ℕ → List ℕ → List ℕ
-bufferOf text out = written out (outcomeOf text)
 
 -- each line that has words says one thing, in order, and the bytes of these are written, sixteen for each, and nothing else
 pub record Packs (text out : List ℕ) : Type 0 where
@@ -56,7 +47,9 @@ pub record Stops (text : List ℕ) (n l : ℕ) : Type 0 where
 
 -- Where it answers a number of a line, that line is the first bad one, and the number is what was expected there.
 abbrev pub FirstBadLine : Type 0
-FirstBadLine = (text out : List ℕ) → 1 ≤ answerOf text out .number → answerOf text out .number ≤ aSet → Stops text (answerOf text out .number) (answerOf text out .line)
+FirstBadLine =
+    (text out : List ℕ) → 1 ≤ answerOf text out .number → answerOf text out .number ≤ aSet
+    → Stops text (answerOf text out .number) (answerOf text out .line)
 
 -- What the programs read in the sixteen bytes of a line's record is the record that the line says.
 abbrev pub ReadAsTyped : Type 0
@@ -64,7 +57,9 @@ ReadAsTyped = (l : List ℕ) (r : Record) → lineRow l ≡ good (Plan r) → re
 
 -- No line is read as another record: lines that say different records of a plan are packed to different bytes.
 abbrev pub NoOtherRecord : Type 0
-NoOtherRecord = (l m : List ℕ) (r q : Record) → lineRow l ≡ good (Plan r) → lineRow m ≡ good (Plan q) → bytesSaid (Plan r) ≡ bytesSaid (Plan q) → r ≡ q
+NoOtherRecord =
+    (l m : List ℕ) (r q : Record) → lineRow l ≡ good (Plan r) → lineRow m ≡ good (Plan q) → bytesSaid (Plan r) ≡ bytesSaid (Plan q)
+    → r ≡ q
 
 -- sixteen bytes as an event: the minute, the point (255 for none), the set, and all else zero
 pub record ReadsAs (bytes : List ℕ) (minute point set : ℕ) : Type 0 where

@@ -6,7 +6,7 @@ ghost use Prim.Native.Nat.{_+_, _*_, _≤_, min};
 ghost use lib.Dec.{eqb};
 ghost use lib.ListN.{length, drop};
 ghost use Rattle.records.specs.Limits.{recordBytes};
-ghost use Rattle.listing.specs.Listing.{outcomeOf, bytesSaid, answer, packed, written};
+ghost use Rattle.listing.specs.Listing.{outcomeOf, bytesSaid, answer, written, answerOf, bufferOf};
 ghost use Rattle.sayings.specs.declared.Said.the-variants.{Event};
 ghost use Rattle.listing.specs.Inside.{lineBy, lineAt, oneIf, scanned, fullBytes, putOf};
 use phrases::Word;
@@ -207,7 +207,7 @@ fn told(number: u32, line: usize, length: usize) -> Packed
 
 // Packs a listing into the front of the buffer, or changes none of it.
 pub fn pack(text: &[u8], out: &mut [u8]) -> Packed
-    ensures { λ p. ⌜ (p ≡ packed (length (now (out .entry))) (outcomeOf (now (text .entry)))) × (now (out .exit) ≡ written (now (out .entry)) (outcomeOf (now (text .entry)))) ⌝ }
+    ensures { λ p. ⌜ (p ≡ answerOf (now (text .entry)) (now (out .entry))) × (now (out .exit) ≡ bufferOf (now (text .entry)) (now (out .entry))) ⌝ }
 {
     let found = scan(text);
     if found.number != 0 {

@@ -69,11 +69,11 @@ empty-last : (n : ℕ) → outcome n (linesOf []) ≡ listed []
 unfolding outcome cut withoutCrs uncommented filled rowOf
 empty-last n = refl
 
-outcome-by : (n : ℕ) (l : List ℕ) (ls : List (List ℕ)) → outcome n (l ∷ ls) ≡ behind n (lineRow l) (outcome (suc n) ls)
+pub outcome-by : (n : ℕ) (l : List ℕ) (ls : List (List ℕ)) → outcome n (l ∷ ls) ≡ behind n (lineRow l) (outcome (suc n) ls)
 unfolding outcome
 outcome-by n l ls = refl
 
-outcome-end : (n : ℕ) → outcome n [] ≡ listed []
+pub outcome-end : (n : ℕ) → outcome n [] ≡ listed []
 unfolding outcome
 outcome-end n = refl
 

@@ -13,10 +13,10 @@ use Rattle.sayings.specs.Sayings.{kindOf, expected, firstWrong, saidBy, unlessW
 use Rattle.sayings.specs.declared.Said.{Said}
 use Rattle.sayings.specs.declared.Said.the-variants.{Nothing, Plan, Mark, Event}
 use Rattle.listing.specs.Listing.{linesOf, wordsOf, Row, bad, good, lineRow, Outcome, refused, listed, inFront, behind, outcome, outcomeOf, allSaid, isShort, packed, written, aSet}
-use Rattle.listing.proofs.Going.{bad-some}
+use Rattle.listing.proofs.Going.{bad-some, outcome-by, outcome-end}
 use Rattle.listing.specs.Promised.{worded, Packs, OneForEachLine, NothingUnlessGood, IsGood, Stops, FirstBadLine}
 
-no : {A : Type 0} → _≡_ {A = ℕ} 0 1 → A
+pub no : {A : Type 0} → _≡_ {A = ℕ} 0 1 → A
 no e = absurd (omega arith)
 
 -- ---- what a good line says
@@ -34,11 +34,11 @@ unfolding saidBy
 front-said k fs ys =
     choice ys (eqb k 1) _ _ refl (choice ys (eqb k 2) _ _ refl (choice ys (eqb k 3) _ _ refl (choice ys (eqb k 4) _ _ refl (choice ys (eqb k 5) _ _ refl refl))))
 
-row-code : Row → ℕ
+unfoldable pub row-code : Row → ℕ
 row-code (bad n) = 0
 row-code (good x) = 1
 
-row-said : Row → Said
+unfoldable pub row-said : Row → Said
 row-said (bad n) = Nothing
 row-said (good x) = x
 
@@ -66,14 +66,6 @@ outcome-code (listed xs) = 1
 items : Outcome → List Said
 items (refused k n) = []
 items (listed xs) = xs
-
-outcome-end : (n : ℕ) → outcome n [] ≡ listed []
-unfolding outcome
-outcome-end n = refl
-
-outcome-by : (n : ℕ) (l : List ℕ) (ls : List (List ℕ)) → outcome n (l ∷ ls) ≡ behind n (lineRow l) (outcome (suc n) ls)
-unfolding outcome
-outcome-by n l ls = refl
 
 worded-end : worded [] ≡ []
 unfolding worded

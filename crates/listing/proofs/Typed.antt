@@ -27,6 +27,7 @@ use Rattle.sayings.specs.declared.Said.{Said}
 use Rattle.sayings.specs.declared.Said.the-variants.{Nothing, Plan, Mark, Event}
 use Rattle.sayings.proofs.Telling.{Each, each-holds, few}
 use Rattle.listing.specs.Listing.{wordsOf, lineRow, bytesSaid}
+use Rattle.listing.proofs.Theorems.{no, row-code, row-said}
 use Rattle.listing.specs.Promised.{ReadAsTyped, NoOtherRecord, EventAsTyped}
 
 -- ---- one word
@@ -155,27 +156,16 @@ kind-held k gs =
 
 -- ---- a line
 
-row-code : Row → ℕ
-row-code (bad n) = 0
-row-code (good x) = 1
-
-row-said : Row → Said
-row-said (bad n) = Nothing
-row-said (good x) = x
-
 row-held : (fs : List (List ℕ)) (x : Said) → rowOf fs ≡ good x → HeldSaid x
 unfolding rowOf row-code row-said
 row-held [] x e = let z : Nothing ≡ x = ap row-said e in rw (← z) tt
 row-held (f ∷ fs) x e = go (eqb (kindOf f) 0) (eqb (length fs) (length (expected (kindOf f)))) refl (eqb (firstWrong (expected (kindOf f)) fs) 0) refl e
   where
-    never : {A : Type 0} → _≡_ {A = ℕ} 0 1 → A
-    never q = absurd (omega arith)
-
     go : (a b : Bool) → eqb (length fs) (length (expected (kindOf f))) ≡ b → (c : Bool) → eqb (firstWrong (expected (kindOf f)) fs) 0 ≡ c
         → (if a then bad 1 else if not b then bad 2 else if c then good (saidBy (kindOf f) fs) else bad (firstWrong (expected (kindOf f)) fs)) ≡ good x → HeldSaid x
-    go true b p c q h = never (ap row-code h)
-    go false false p c q h = never (ap row-code h)
-    go false true p false q h = never (ap row-code h)
+    go true b p c q h = no (ap row-code h)
+    go false false p c q h = no (ap row-code h)
+    go false true p false q h = no (ap row-code h)
     go false true p true q h =
         let z : saidBy (kindOf f) fs ≡ x = ap row-said h in
         rw (← z)

@@ -1,7 +1,5 @@
 // `desk calendar YEAR MONTH DAY HOUR MINUTE`: what `sheet` reads, and the iCalendar text of the board after the events, minute 0 being
 // the one that is given. A refusal goes to standard error, and nothing is written.
-ghost use mathlib.Core.Path.{_≡_};
-ghost use lib.ListN.{length};
 use crate::say::say;
 use crate::sheet_in::sheet_in;
 use crate::usage;
@@ -29,13 +27,12 @@ fn write(sheet: Sheet, origin: Stamp) {
     let taken = sheet.taken;
     let board = taken.board;
     let mut room = [0u8; MOST_TEXT];
-    let out: &mut [u8] = &mut room;
-    let answer = write_calendar(plan, board, origin, out);
+    let answer = write_calendar(plan, board, origin, &mut room);
     if answer.number != ACCEPTED {
         return say(STDERR_FILENO, answers::calendar_refused(answer.number));
     }
-    let n = within(answer.length, out);
-    io::write_all(STDOUT_FILENO, &out[..n]);
+    let n = within(answer.length, &room);
+    io::write_all(STDOUT_FILENO, &room[..n]);
 }
 
 // The calendar of the sheet that standard input holds.

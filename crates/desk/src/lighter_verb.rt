@@ -11,11 +11,12 @@ use plan::MOST_RECORDS;
 
 // A line for each record that went.
 fn say_dropped(made: Lighter) {
+    let count = made.count as usize;
     let dropped = made.dropped;
-    let mut i: usize = 0;
-    while (i < made.count as usize) & (i < MOST_RECORDS) {
-        say(STDERR_FILENO, answers::dropped_line(dropped[i]));
-        i += 1;
+    for i in 0..MOST_RECORDS {
+        if i < count {
+            say(STDERR_FILENO, answers::dropped_line(dropped[i]));
+        }
     }
 }
 

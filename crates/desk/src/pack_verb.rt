@@ -7,6 +7,7 @@ use crate::input::text_room;
 use crate::say::say;
 use libc::STDERR_FILENO;
 use libc::STDOUT_FILENO;
+use listing::A_LONGER_BUFFER;
 use listing::Packed;
 use listing::pack;
 use plan::ACCEPTED;
@@ -30,9 +31,9 @@ const A_SET: [u8; 51] = *b"pack: expected none or points below 32, as 2,4, at ";
 const TOO_LONG: [u8; 84] =
     *b"usage: a listing for pack has at most 262144 bytes and makes at most 16384 records.\n";
 
-// What is said of a bad line, or of a listing that makes too many records.
-fn refused(answer: Packed) {
-    match answer.number {
+// What was expected, in words; nothing for a number that is none.
+fn say_expected(number: u32) -> bool {
+    match number {
         1 => io::write_all(STDERR_FILENO, &A_KIND),
         2 => io::write_all(STDERR_FILENO, &SO_MANY_WORDS),
         3 => io::write_all(STDERR_FILENO, &A_POINT),
@@ -40,12 +41,17 @@ fn refused(answer: Packed) {
         5 => io::write_all(STDERR_FILENO, &A_COUNT),
         6 => io::write_all(STDERR_FILENO, &A_POINT_OR_NONE),
         7 => io::write_all(STDERR_FILENO, &A_SET),
-        0 | 8..=4294967295 => {
-            io::write_all(STDERR_FILENO, &TOO_LONG);
-            return;
-        }
+        0 | 8..=4294967295 => false,
     }
-    ;
+}
+
+// What is said of a bad line, or of a listing that makes too many records.
+fn refused(answer: Packed) {
+    if A_LONGER_BUFFER <= answer.number {
+        io::write_all(STDERR_FILENO, &TOO_LONG);
+        return;
+    }
+    say_expected(answer.number);
     let line = (answer.line % 4294967296) as u32;
     say(STDERR_FILENO, answers::line_number(line))
 }
@@ -53,14 +59,13 @@ fn refused(answer: Packed) {
 // What the first so many bytes say.
 fn packed(text: &[u8], length: usize) {
     let mut room = text_room();
-    let out: &mut [u8] = &mut room;
     let n = within(length, text);
-    let answer = pack(&text[..n], out);
+    let answer = pack(&text[..n], &mut room);
     if answer.number != ACCEPTED {
         return refused(answer);
     }
-    let m = within(answer.length, out);
-    io::write_all(STDOUT_FILENO, &out[..m]);
+    let m = within(answer.length, &room);
+    io::write_all(STDOUT_FILENO, &room[..m]);
 }
 
 pub(crate) fn run() {

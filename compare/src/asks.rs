@@ -1,4 +1,5 @@
-//! Draws what `desk` is asked: a verb with its words, and a standard input. Plans here, texts in `texts.rs`.
+//! Draws what `desk` is asked: a verb with its words, and a standard input. Plans here, texts in `texts.rs`, listings in
+//! `listings.rs`.
 
 use crate::calendars;
 use crate::damage;
@@ -7,6 +8,7 @@ use crate::events::MARK;
 use crate::inputs;
 use crate::lighters;
 use crate::links;
+use crate::listings;
 use crate::plans::{self, Sizes, FULL};
 use crate::texts;
 use oracle::board::{self, Board, Outcome, Place};
@@ -17,8 +19,8 @@ use oracle::plan_test::{self, Answer};
 use oracle::worst;
 
 /// The verbs that can be compared.
-pub const VERBS: [&str; 7] = [
-    "test", "worst", "day", "import", "close", "calendar", "lighter",
+pub const VERBS: [&str; 8] = [
+    "test", "worst", "day", "import", "close", "calendar", "lighter", "pack",
 ];
 
 /// Numbers that reading a plan file gives.
@@ -50,6 +52,7 @@ fn kinds(verb: &str) -> usize {
         "close" => CLOSE,
         "calendar" => 1 + calendars::KINDS,
         "lighter" => 1 + lighters::KINDS,
+        "pack" => 1 + listings::KINDS,
         _ => PLANS,
     }
 }
@@ -81,6 +84,7 @@ fn of_kind(draw: &mut Draw, verb: &str, kind: usize, tour: u64) -> Vec<Ask> {
         ("close", kind) => closing(draw, kind),
         ("calendar", kind) => calendars::batch(draw, kind - 1),
         ("lighter", kind) => lighters::batch(draw, kind - 1),
+        ("pack", kind) => listings::batch(draw, kind - 1),
         (_, kind) => about_plans(draw, verb, kind, tour),
     }
 }
@@ -823,6 +827,7 @@ fn own_cases(verb: &str) -> Vec<String> {
         ],
         "calendar" => return calendars::cases(),
         "lighter" => return lighters::cases(),
+        "pack" => return listings::cases(),
         _ => return texts::cases(),
     };
     all.iter().map(|what| format!("{verb}: {what}")).collect()

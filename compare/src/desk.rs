@@ -6,6 +6,7 @@ use crate::draw::Draw;
 use crate::icalendar;
 use crate::programs::{Shown, Way};
 use crate::texts;
+use oracle::pack;
 use std::io;
 use std::sync::atomic::{AtomicBool, AtomicU64, Ordering};
 use std::sync::Mutex;
@@ -46,7 +47,7 @@ pub struct Compared {
 }
 
 /// Do they differ, or does one end as `desk` never does? The line about wrong usage is each program's own: it must be one
-/// line that names every verb that is compared, and nothing else is said.
+/// line that names every verb that is compared, and nothing else is said. The line about a listing that is too much is not.
 pub fn differ(verbs: &[&str], ours: &Shown, theirs: &Shown) -> bool {
     let [ours, theirs] = [ours, theirs].map(|shown| plain(verbs, shown));
     ours != theirs || !ENDINGS.contains(&ours.ended.as_str())
@@ -54,6 +55,9 @@ pub fn differ(verbs: &[&str], ours: &Shown, theirs: &Shown) -> bool {
 
 fn plain(verbs: &[&str], shown: &Shown) -> Shown {
     let mut shown = shown.clone();
+    if too_much(&shown) {
+        return shown;
+    }
     let text = String::from_utf8_lossy(&shown.errors).into_owned();
     let one_line = text.ends_with('\n') && text.lines().count() == 1;
     let words: Vec<&str> = text
@@ -63,6 +67,11 @@ fn plain(verbs: &[&str], shown: &Shown) -> Shown {
         shown.errors = b"the verbs".to_vec();
     }
     shown
+}
+
+/// Is it said that a listing is too much?
+fn too_much(shown: &Shown) -> bool {
+    shown.ended == ENDINGS[2] && shown.errors == format!("{}\n", pack::TOO_MUCH).into_bytes()
 }
 
 /// What is wrong with what was said, where that can be told without the other program: a calendar is read again and held to
@@ -84,6 +93,9 @@ pub fn fault(words: &[String], input: &[u8], shown: &Shown) -> Option<String> {
 /// What came up in what was said of an ask.
 fn keys(ask: &Ask, shown: &Shown) -> Vec<String> {
     let verb = ask.words.first().map_or("", String::as_str);
+    if verb == "pack" && too_much(shown) {
+        return vec!["pack too much".to_string()];
+    }
     if shown.ended == ENDINGS[2] {
         return vec!["wrong usage".to_string()];
     }
@@ -110,8 +122,16 @@ fn keys(ask: &Ask, shown: &Shown) -> Vec<String> {
         }
         keys
     };
+    let expected = || {
+        let (what, number) = line
+            .strip_prefix("pack: expected ")?
+            .split_once(", at line ")?;
+        let known = pack::EXPECTED.contains(&what) && number.parse::<u32>().is_ok();
+        known.then(|| vec![format!("pack expected {what}")])
+    };
     match (verb, &words[..]) {
         _ if !silent.is_empty() || line.contains('\n') => {}
+        ("pack", _) if refused && expected().is_some() => return expected().unwrap_or_default(),
         ("import", ["import", number, _]) if refused => return vec![format!("import {number}")],
         (_, ["plan", number, _]) if refused => return vec![format!("{verb} plan {number}")],
         (_, [name, number]) if refused && *name == verb => return vec![format!("{verb} {number}")],
@@ -157,12 +177,16 @@ pub fn expected(verbs: &[&str]) -> Vec<String> {
             "close" => &["file", "61", "62", "63"],
             "calendar" => &["file", "31", "51"],
             "lighter" => &["dropped none", "dropped some", "13", "60"],
+            "pack" => &["file", "too much"],
             _ => &["file", "40", "41", "42", "43"],
         };
         let own = own.iter().map(|own| own.to_string());
         let said: Vec<String> = match verb {
             "import" => own
                 .chain(texts::READERS.map(|number| number.to_string()))
+                .collect(),
+            "pack" => own
+                .chain(pack::EXPECTED.map(|what| format!("expected {what}")))
                 .collect(),
             _ => own.chain(plan).collect(),
         };

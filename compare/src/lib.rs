@@ -11,6 +11,7 @@ pub mod icalendar;
 pub mod inputs;
 pub mod lighters;
 pub mod links;
+pub mod listings;
 pub mod plans;
 pub mod player;
 pub mod printed;

@@ -11,6 +11,7 @@ use oracle::desk::{wrong_usage, Said, Verb};
 use oracle::event;
 use oracle::import::{fields, import, lines};
 use oracle::lighter::{lighter, passes, tables, without, Lighter};
+use oracle::pack::{self, pack, Refused};
 use oracle::plan::{self, Link, Ordinary, Plan, BOUND, OLD_ORDINARIES};
 use oracle::plan_test::{self, Answer, Fault, Odometer};
 use oracle::text;
@@ -67,7 +68,7 @@ fn the_same_agree_and_all_comes_up() {
     assert!((700..1_500).contains(&asks), "{asks}");
     for seed in 2..8 {
         // A verb left out is not waited for.
-        all_comes_up(&["import", "close", "calendar", "lighter"], seed);
+        all_comes_up(&["import", "close", "calendar", "lighter", "pack"], seed);
     }
 }
 
@@ -928,6 +929,304 @@ fn wrong_lighter_plans_are_found() {
     found("lighter", "what went is said with status 1", &|ask| {
         let mut said = right(ask);
         if said.status == 0 && !said.errors.is_empty() {
+            said.status = 1;
+        }
+        said
+    });
+}
+
+type Packed = Result<Vec<u8>, Refused>;
+type Packer = fn(&[u8]) -> Packed;
+
+/// The listing packed with another way to make a record.
+fn packed_by(listing: &[u8], record: fn(&[&[u8]]) -> Result<pack::Record, usize>) -> Packed {
+    if listing.len() > pack::LONGEST {
+        return Err(Refused::TooMuch);
+    }
+    let records = pack::records(listing, record)?;
+    match records.len() <= pack::MOST {
+        true => Ok(records.concat()),
+        false => Err(Refused::TooMuch),
+    }
+}
+
+/// The record of a line, each of whose words is changed first.
+fn with_words(words: &[&[u8]], change: fn(&[u8]) -> Vec<u8>) -> Result<pack::Record, usize> {
+    let changed: Vec<Vec<u8>> = words.iter().map(|word| change(word)).collect();
+    let changed: Vec<&[u8]> = changed.iter().map(Vec::as_slice).collect();
+    pack::record(&changed)
+}
+
+fn without_zeros(word: &[u8]) -> &[u8] {
+    let zeros = word.iter().take_while(|byte| **byte == b'0').count();
+    &word[zeros..]
+}
+
+const PACKERS: [(&str, Packer); 36] = [
+    ("CR parts words", |text| pack(&replaced(text, b"\r", b" "))),
+    ("CR ends a line", |text| {
+        pack(&replaced(&replaced(text, b"\r\n", b"\n"), b"\r", b"\n"))
+    }),
+    ("a last CR ends the line", |text| {
+        pack(text.strip_suffix(b"\r").unwrap_or(text))
+    }),
+    ("CR CR LF ends a line", |text| {
+        pack(&replaced(text, b"\r\r\n", b"\n"))
+    }),
+    ("CR LF ends no line", |text| {
+        pack(&replaced(text, b"\r\n", b"\x01\n"))
+    }),
+    ("a tab is a byte of a word", |text| {
+        pack(&replaced(text, b"\t", b"\x01"))
+    }),
+    ("a vertical tab parts words", |text| {
+        pack(&replaced(text, b"\x0b", b" "))
+    }),
+    ("a form feed parts words", |text| {
+        pack(&replaced(text, b"\x0c", b" "))
+    }),
+    ("a zero byte counts for nothing", |text| {
+        pack(&replaced(text, b"\0", b""))
+    }),
+    ("a byte order mark is let be", |text| {
+        pack(&replaced(text, b"\xef\xbb\xbf", b""))
+    }),
+    ("no comment right behind a word", |text| {
+        let mut text = text.to_vec();
+        for at in 1..text.len() {
+            if text[at] == b'#' && text[at - 1].is_ascii_digit() {
+                text[at] = b'x';
+            }
+        }
+        pack(&text)
+    }),
+    ("a last line without its end is left out", |text| {
+        let end = text.iter().rposition(|byte| *byte == b'\n');
+        pack(&text[..end.map_or(0, |end| end + 1)])
+    }),
+    ("no bytes are refused", |text| match text {
+        [] => Err(Refused::Line(1, 1)),
+        _ => pack(text),
+    }),
+    ("lines from 0", |text| {
+        pack(text).map_err(|refused| match refused {
+            Refused::Line(expected, line) => Refused::Line(expected, line - 1),
+            other => other,
+        })
+    }),
+    ("empty lines are not counted", |text| {
+        let lines = pack::lines(text);
+        let told: Vec<&[u8]> = lines
+            .into_iter()
+            .filter(|line| !pack::words(line).is_empty())
+            .collect();
+        match pack(text) {
+            Err(Refused::Line(..)) => pack(&told.join(&b'\n')),
+            other => other,
+        }
+    }),
+    ("the last bad line", |text| {
+        let lines = pack::lines(text);
+        let bad = (1..).zip(&lines).filter_map(|(number, line)| {
+            let words = pack::words(line);
+            let made = (!words.is_empty()).then(|| pack::record(&words));
+            Some(Refused::Line(made?.err()?, number))
+        });
+        match (pack(text), bad.last()) {
+            (Err(Refused::Line(..)), Some(last)) => Err(last),
+            (other, _) => other,
+        }
+    }),
+    ("a bad line of the wrong kind is left out", |text| {
+        packed_by(text, |words| match pack::record(words) {
+            Err(1) => Ok([0; 16]),
+            other => other,
+        })
+    }),
+    ("the count before the kind", |text| {
+        packed_by(text, |words| match pack::record(words) {
+            Err(1) if words.len() > 5 => Err(2),
+            other => other,
+        })
+    }),
+    ("words before their count", |text| {
+        packed_by(text, |words| match (pack::record(words), words) {
+            (Err(2), [kind, b"x", ..]) if *kind != b"event" => Err(3),
+            (other, _) => other,
+        })
+    }),
+    ("more words are let be", |text| {
+        packed_by(text, |words| match words {
+            [b"mark", ..] => pack::record(&words[..1]),
+            _ => pack::record(words),
+        })
+    }),
+    ("words from right to left", |text| {
+        packed_by(text, |words| match (pack::record(words), words) {
+            (Err(5 | 6), [b"event", _, _, b"x"]) => Err(7),
+            (Err(3), [b"ordinary", _, b"x", _]) => Err(4),
+            (Err(3), [b"wait", _, _, b"x"]) => Err(4),
+            (Err(3), [b"link", _, b"x", _, _]) => Err(4),
+            (Err(4), [b"link", _, _, _, b"x"]) => Err(3),
+            (other, _) => other,
+        })
+    }),
+    ("a plus is let be", |text| {
+        packed_by(text, |words| {
+            with_words(words, |word| {
+                word.strip_prefix(b"+").unwrap_or(word).to_vec()
+            })
+        })
+    }),
+    ("-0 is refused", |text| {
+        packed_by(text, |words| {
+            with_words(words, |word| match word {
+                b"-0" => b"-".to_vec(),
+                _ => word.to_vec(),
+            })
+        })
+    }),
+    ("-1 is 0 where there is no minus", |text| {
+        packed_by(text, |words| {
+            pack::record(words).or_else(|_| {
+                with_words(words, |word| match word {
+                    b"-1" => b"0".to_vec(),
+                    _ => word.to_vec(),
+                })
+            })
+        })
+    }),
+    ("many zeros are refused", |text| {
+        packed_by(text, |words| {
+            with_words(words, |word| {
+                match word.len() > 19 && !word.contains(&b',') {
+                    true => b"x".to_vec(),
+                    false => word.to_vec(),
+                }
+            })
+        })
+    }),
+    ("points wrap", |text| {
+        packed_by(text, |words| {
+            with_words(words, |word| match without_zeros(word) {
+                b"256" => b"0".to_vec(),
+                _ => word.to_vec(),
+            })
+        })
+    }),
+    ("numbers wrap", |text| {
+        packed_by(text, |words| {
+            with_words(words, |word| match without_zeros(word) {
+                b"4294967296" => b"0".to_vec(),
+                _ => word.to_vec(),
+            })
+        })
+    }),
+    ("signed numbers wrap", |text| {
+        packed_by(text, |words| {
+            with_words(words, |word| match word {
+                b"-2147483649" => b"2147483647".to_vec(),
+                _ => word.to_vec(),
+            })
+        })
+    }),
+    ("the least signed number is refused", |text| {
+        packed_by(text, |words| {
+            with_words(words, |word| match word {
+                b"-2147483648" => b"-2147483649".to_vec(),
+                _ => word.to_vec(),
+            })
+        })
+    }),
+    ("an event of point 255", |text| {
+        packed_by(text, |words| match (pack::record(words), words) {
+            (Err(6), [kind, minute, point, set]) if without_zeros(point) == b"255" => {
+                pack::record(&[kind, minute, b"none", set])
+            }
+            (other, _) => other,
+        })
+    }),
+    ("point 32 of a set is point 0", |text| {
+        packed_by(text, |words| match (pack::record(words), words) {
+            (Err(7), [kind, minute, point, set]) if set.ends_with(b"32") => {
+                pack::record(&[kind, minute, point, &replaced(set, b"32", b"0")])
+            }
+            (other, _) => other,
+        })
+    }),
+    ("a comma at the end of a set", |text| {
+        packed_by(text, |words| match (pack::record(words), words) {
+            (Err(7), [kind, minute, point, set]) => {
+                let set = set.strip_suffix(b",").unwrap_or(set);
+                pack::record(&[kind, minute, point, set])
+            }
+            (other, _) => other,
+        })
+    }),
+    ("two numbers of a link change places", |text| {
+        packed_by(text, |words| {
+            let mut record = pack::record(words)?;
+            if words[0] == b"link" {
+                record[4..12].rotate_left(4);
+            }
+            Ok(record)
+        })
+    }),
+    ("one byte more", |text| match text.len() {
+        length if length == pack::LONGEST + 1 => pack(&text[..pack::LONGEST]),
+        _ => pack(text),
+    }),
+    ("one record less", |text| match pack(text) {
+        Ok(bytes) if bytes.len() == 16 * pack::MOST => Err(Refused::TooMuch),
+        other => other,
+    }),
+    ("too many records before a bad line", |text| {
+        let lines = text.iter().filter(|byte| **byte == b'\n').count();
+        match pack(text) {
+            Err(_) if lines > pack::MOST => Err(Refused::TooMuch),
+            other => other,
+        }
+    }),
+];
+
+#[test]
+fn wrong_packs_are_found() {
+    for (what, packer) in PACKERS {
+        found("pack", what, &|ask| {
+            of_verb("pack", ask, |listing| match packer(listing) {
+                Err(Refused::Line(expected, line)) => {
+                    let expected = pack::EXPECTED[expected - 1];
+                    file(Err(format!("pack: expected {expected}, at line {line}")))
+                }
+                Err(Refused::TooMuch) => Said {
+                    status: 2,
+                    ..file(Err(pack::TOO_MUCH.to_string()))
+                },
+                Ok(bytes) => file(Ok(bytes)),
+            })
+        });
+    }
+    found("pack", "good lines are written before a bad one", &|ask| {
+        let mut said = right(ask);
+        if said.status == 1 {
+            let lines = pack::lines(&ask.input);
+            let good = (1..lines.len()).rev();
+            let mut good = good.filter_map(|count| pack(&lines[..count].join(&b'\n')).ok());
+            said.output = good.next().unwrap_or_default();
+        }
+        said
+    });
+    found(
+        "pack",
+        "too much is said as other wrong usage is",
+        &|ask| match right(ask) {
+            said if said.status == 2 => wrong_usage(),
+            said => said,
+        },
+    );
+    found("pack", "too much is said with status 1", &|ask| {
+        let mut said = right(ask);
+        if said.errors.starts_with(b"usage: a listing") {
             said.status = 1;
         }
         said

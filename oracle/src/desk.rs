@@ -4,6 +4,7 @@ use crate::calendar::{self, Origin};
 use crate::close;
 use crate::import;
 use crate::lighter::{self, Lighter};
+use crate::pack::{self, Refused};
 use crate::plan::{self, Plan};
 use crate::text::{self, MARK};
 use crate::worst::{self, Worst};
@@ -27,11 +28,12 @@ pub enum Verb {
     Close,
     Calendar(Origin),
     Lighter,
+    Pack,
 }
 
 /// The line about wrong usage.
 const USAGE: &str = "usage: oracle-desk test | worst | day PROJECTION | import | close | \
-                     calendar YEAR MONTH DAY HOUR MINUTE | lighter";
+                     calendar YEAR MONTH DAY HOUR MINUTE | lighter | pack";
 
 impl Verb {
     /// None where there is no such verb, or the words are not its words.
@@ -48,6 +50,7 @@ impl Verb {
                 Some(Verb::Calendar(Origin::of(numbers)))
             }
             ["lighter"] => Some(Verb::Lighter),
+            ["pack"] => Some(Verb::Pack),
             _ => None,
         }
     }
@@ -62,6 +65,7 @@ impl Verb {
             Verb::Close => file(close(input)),
             Verb::Calendar(origin) => file(calendar(input, &origin)),
             Verb::Lighter => lighter(input),
+            Verb::Pack => pack(input),
         }
     }
 }
@@ -176,5 +180,23 @@ fn lighter(file_in: &[u8]) -> Said {
             status: 0,
         },
         Err(text) => file(Err(text)),
+    }
+}
+
+/// The bytes of a listing, or a line about what was expected. That it is too much is wrong usage.
+fn pack(listing: &[u8]) -> Said {
+    let line_of = |refused| match refused {
+        Refused::Line(expected, number) => {
+            let expected = pack::EXPECTED[expected - 1];
+            (1, format!("pack: expected {expected}, at line {number}"))
+        }
+        Refused::TooMuch => (2, pack::TOO_MUCH.to_string()),
+    };
+    match pack::pack(listing).map_err(line_of) {
+        Ok(output) => file(Ok(output)),
+        Err((status, text)) => Said {
+            status,
+            ..file(Err(text))
+        },
     }
 }

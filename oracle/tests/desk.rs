@@ -62,7 +62,8 @@ fn words() {
     let numbers = Origin::of([2024, 2, 29, 0, u32::MAX]);
     assert_eq!(of(&origin), Some(Verb::Calendar(numbers)));
     assert_eq!(of(&["lighter"]), Some(Verb::Lighter));
-    let none: [&[&str]; 32] = [
+    assert_eq!(of(&["pack"]), Some(Verb::Pack));
+    let none: [&[&str]; 34] = [
         &[],
         &[""],
         &["Test"],
@@ -89,6 +90,8 @@ fn words() {
         &["day", "\u{0661}"],
         &["lighter", "0"],
         &["Lighter"],
+        &["pack", "plan.list"],
+        &["packs"],
         &["calendar"],
         &["calendar", "2024", "1", "1", "0"],
         &["calendar", "2024", "1", "1", "0", "0", "0"],
@@ -102,7 +105,7 @@ fn words() {
         let (errors, status) = refused(words, &file);
         assert_eq!((errors.lines().count(), status), (1, 2), "{words:?}");
         let verbs = [
-            "test", "worst", "day", "import", "close", "calendar", "lighter",
+            "test", "worst", "day", "import", "close", "calendar", "lighter", "pack",
         ];
         for verb in verbs {
             assert!(errors.contains(verb) && errors.ends_with('\n'));
@@ -254,4 +257,24 @@ fn the_lighter_plan() {
     let wide = plan(2, &[link(0, 1, 4_097, 1), ordinary(0, 0, 1)]).to_bytes();
     assert_eq!(lighter(&wide), said("lighter 13\n", 1));
     assert_eq!(lighter(&unwaited[16..]), said("plan 8 0\n", 1));
+}
+
+#[test]
+fn the_packed_listing() {
+    let pack = |listing: &[u8]| desk(&["pack"], listing);
+    assert_eq!(pack(b""), (vec![], String::new(), 0));
+    let listing = b"point 0 7 # the pond\r\n\tordinary 1 -5  0\nmark";
+    let mut packed = bytes(&[ordinary(1, -5, 0)]);
+    packed.splice(..0, [1, 0, 0, 0, 0, 0, 0, 0, 0, 0, 0, 0, 7, 0, 0, 0]);
+    packed.extend([255; 16]);
+    assert_eq!(pack(listing), (packed, String::new(), 0));
+    let refused = |listing: &[u8]| refused(&["pack"], listing);
+    assert_eq!(
+        refused(b"mark\n\nevent 0 255 none\nmark 1\n"),
+        said("pack: expected none or a point, 0 to 254, at line 3\n", 1)
+    );
+    let usage =
+        "usage: a listing for pack has at most 262144 bytes and makes at most 16384 records.\n";
+    assert_eq!(refused(&b"mark\n".repeat(16_385)), said(usage, 2));
+    assert_eq!(refused(&[b'x'; 262_145]), said(usage, 2));
 }

@@ -140,7 +140,8 @@ fn tell(both: &Both, seed: u64, found: &Found) -> io::Result<()> {
         *way
     };
     let still = |input: &[u8]| differ(way, input);
-    let small = if ask.words.first().is_some_and(|verb| verb == "import") {
+    let verb = ask.words.first().map_or("", String::as_str);
+    let small = if ["import", "pack"].contains(&verb) {
         smaller::smaller_text(&still, &ask.input)?
     } else {
         smaller::smaller(&still, &ask.input)?

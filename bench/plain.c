@@ -20,7 +20,7 @@ enum { LISTED = 4096, SAID = 3, STREAM_ROOM = 12288 };
 typedef struct { u8 kind, a, b; i32 first, second; u32 code; } record;
 typedef struct { u32 count; record records[RECORDS]; } plan;
 typedef struct { u32 number, place; } refusal;
-typedef struct { u32 clock, done; u32 minutes[POINTS]; } board;
+typedef struct { u32 clock, done; u32 minutes[POINTS], calls[POINTS]; } board;
 
 static bool has(u32 set, u8 p) { return p < POINTS && (set >> p & 1); }
 static u32 below(u32 n) { return n < POINTS ? (1u << n) - 1 : ~0u; }
@@ -125,6 +125,32 @@ static u32 points_of(const plan *p) {
 
 // --- Boards, windows, replies ---
 
+// The numbers of the events that did the points, by one pass over the done points with a table by number.
+static bool is_numbered(const board *b, u32 watched) {
+    u32 seen = 0, foremans = 0, noted[POINTS];
+    for (u8 i = 0; i < POINTS; i++) {
+        u32 n = b->calls[i];
+        if (!has(b->done, i)) {
+            if (n) return false;
+            continue;
+        }
+        if (n == 0 || n > POINTS) return false;
+        u32 slot = 1u << (n - 1);
+        if (seen & slot && noted[n - 1] != b->minutes[i]) return false;
+        if (!has(watched, i)) {
+            if (foremans & slot) return false;
+            foremans |= slot;
+        }
+        seen |= slot;
+        noted[n - 1] = b->minutes[i];
+    }
+    u32 count = __builtin_popcount(seen);
+    if (seen != below(count)) return false;
+    for (u32 i = 1; i < count; i++)
+        if (noted[i] < noted[i - 1]) return false;
+    return true;
+}
+
 static bool is_sound(const plan *p, const board *b) {
     if (b->done & ~below(points_of(p))) return false;
     u32 last = 0;
@@ -134,15 +160,19 @@ static bool is_sound(const plan *p, const board *b) {
         if (m > last) last = m;
     }
     if (b->clock != last) return false;
+    u32 watched = 0;
     for (u32 i = 0; i < p->count; i++) {
         const record *r = &p->records[i];
         if (r->kind != LINK) continue;
+        watched |= 1u << r->b;
         u64 from = b->minutes[r->a], to = b->minutes[r->b];
         if (has(b->done, r->b)) {
             if (!has(b->done, r->a) || to < from + r->first || to > from + r->second) return false;
+            if (b->calls[r->a] >= b->calls[r->b]) return false;
         } else if (has(b->done, r->a) && b->clock > from + r->second) return false;
     }
-    return b->clock <= FARTHEST * (u32)__builtin_popcount(b->done);
+    if (b->clock > FARTHEST * (u32)__builtin_popcount(b->done)) return false;
+    return is_numbered(b, watched);
 }
 
 // The links by the points that they end at.
@@ -297,9 +327,15 @@ static refusal take(const plan *p, board *b, const u8 *e, size_t length) {
     u32 number = event_number(p, b, e, length);
     if (number) return (refusal){number, 0};
     u32 points = word_at(e + 8) | (e[4] == 255 ? 0 : 1u << e[4]);
+    u32 call = 0;
+    for (u32 rest = b->done; rest; rest &= rest - 1)
+        if (b->calls[__builtin_ctz(rest)] > call) call = b->calls[__builtin_ctz(rest)];
     b->clock = word_at(e);
     b->done |= points;
-    for (u32 rest = points; rest; rest &= rest - 1) b->minutes[__builtin_ctz(rest)] = b->clock;
+    for (u32 rest = points; rest; rest &= rest - 1) {
+        b->minutes[__builtin_ctz(rest)] = b->clock;
+        b->calls[__builtin_ctz(rest)] = call + 1;
+    }
     return found;
 }
 
@@ -597,8 +633,9 @@ static plan *coded(plan *p, u32 code) {
 
 static void say_board(u32 asked) {
     say(asked, desk_board.clock, desk_board.done, 0);
-    const u32 *m = desk_board.minutes;
+    const u32 *m = desk_board.minutes, *c = desk_board.calls;
     for (u32 k = 0; k < POINTS; k += 4) say(m[k], m[k + 1], m[k + 2], m[k + 3]);
+    for (u32 k = 0; k < POINTS; k += 4) say(c[k], c[k + 1], c[k + 2], c[k + 3]);
 }
 
 // A stream with a room of so many numbers, each x before; the sum is over all of them.
@@ -689,6 +726,7 @@ static void probe(void) {
         case 5: memset(buffer, b[1], sizeof buffer), buffer_length = first < sizeof buffer ? first : sizeof buffer; break;
         case 6: set_word(first, second), set_word(first + 4, third); break;
         case 7: times = first; break;
+        case 8: desk_board.calls[b[1] % POINTS] = first; break;
         default: call(b[0], first, second);
         }
     }

@@ -1,10 +1,14 @@
-//! Draws what `desk` is asked: a verb with its words, and a standard input. Plans here, texts in `texts.rs`.
+//! Draws what `desk` is asked: a verb with its words, and a standard input. Plans here, texts in `texts.rs`, listings in
+//! `listings.rs`.
 
+use crate::calendars;
 use crate::damage;
 use crate::draw::Draw;
 use crate::events::MARK;
 use crate::inputs;
+use crate::lighters;
 use crate::links;
+use crate::listings;
 use crate::plans::{self, Sizes, FULL};
 use crate::texts;
 use oracle::board::{self, Board, Outcome, Place};
@@ -15,7 +19,9 @@ use oracle::plan_test::{self, Answer};
 use oracle::worst;
 
 /// The verbs that can be compared.
-pub const VERBS: [&str; 5] = ["test", "worst", "day", "import", "close"];
+pub const VERBS: [&str; 8] = [
+    "test", "worst", "day", "import", "close", "calendar", "lighter", "pack",
+];
 
 /// Numbers that reading a plan file gives.
 pub const READING: [u32; 12] = [1, 2, 3, 4, 5, 6, 7, 8, 9, 10, 11, 15];
@@ -44,6 +50,9 @@ fn kinds(verb: &str) -> usize {
     match verb {
         "import" => 1 + texts::KINDS,
         "close" => CLOSE,
+        "calendar" => 1 + calendars::KINDS,
+        "lighter" => 1 + lighters::KINDS,
+        "pack" => 1 + listings::KINDS,
         _ => PLANS,
     }
 }
@@ -73,6 +82,9 @@ fn of_kind(draw: &mut Draw, verb: &str, kind: usize, tour: u64) -> Vec<Ask> {
         (_, 0) => wrong_usage(draw, verb),
         ("import", kind) => texts::batch(draw, kind - 1),
         ("close", kind) => closing(draw, kind),
+        ("calendar", kind) => calendars::batch(draw, kind - 1),
+        ("lighter", kind) => lighters::batch(draw, kind - 1),
+        ("pack", kind) => listings::batch(draw, kind - 1),
         (_, kind) => about_plans(draw, verb, kind, tour),
     }
 }
@@ -85,33 +97,36 @@ fn wrong_usage(draw: &mut Draw, verb: &str) -> Vec<Ask> {
     let none = [&capital, &longer, &spaced, shorter, "", "0", "help", "--"];
     all.push(vec![draw.pick(&none)]);
     all.push(vec![draw.pick(&none), verb]);
+    // What is no number of 32 bits.
+    let number = [
+        "-1",
+        "-0",
+        "+1",
+        "",
+        " 1",
+        "1 ",
+        "1x",
+        "0x1",
+        "1.0",
+        "one",
+        "4294967296",
+        "4294967297",
+        "18446744073709551616",
+        "99999999999999999999999999",
+        "00004294967296",
+        "\u{0661}",
+        "1\n",
+        "\n1",
+    ];
     if verb == "day" {
-        let number = [
-            "-1",
-            "-0",
-            "+1",
-            "",
-            " 1",
-            "1 ",
-            "1x",
-            "0x1",
-            "1.0",
-            "one",
-            "4294967296",
-            "4294967297",
-            "18446744073709551616",
-            "99999999999999999999999999",
-            "00004294967296",
-            "\u{0661}",
-            "1\n",
-            "\n1",
-        ];
         all.push(vec![verb]);
         all.push(vec![verb, "4294967296"]);
         for _ in 0..3 {
             all.push(vec![verb, draw.pick(&number)]);
         }
         all.push(vec![verb, "0", draw.pick(&["0", "", "x"])]);
+    } else if verb == "calendar" {
+        all.extend(calendars::wrong_words(draw, &number));
     } else {
         all.push(vec![verb, draw.pick(&["0", "", "1", "x", "-", verb])]);
     }
@@ -203,7 +218,7 @@ fn one_too_many(draw: &mut Draw) -> Vec<u8> {
 }
 
 /// A file for each number that reading gives.
-fn refusals(draw: &mut Draw, verb: &str) -> Vec<Ask> {
+pub fn refusals(draw: &mut Draw, verb: &str) -> Vec<Ask> {
     let mut asks = Vec::new();
     for number in READING {
         let file = refused(draw, number);
@@ -810,6 +825,9 @@ fn own_cases(verb: &str) -> Vec<String> {
             "a cycle and a distance past the bound",
             "a mark",
         ],
+        "calendar" => return calendars::cases(),
+        "lighter" => return lighters::cases(),
+        "pack" => return listings::cases(),
         _ => return texts::cases(),
     };
     all.iter().map(|what| format!("{verb}: {what}")).collect()

@@ -1,7 +1,8 @@
 //! Counts what came up in what was printed: reply numbers, endings, the replies and tests that `offers` prints, and the
-//! answers of the probe; and what links there were in the inputs.
+//! answers of the probe; and what links and boards there were in the inputs.
 
 use crate::links::{EVENTS, SHAPES, TENS};
+use crate::soundness;
 use std::collections::BTreeMap;
 
 /// What must come up in the lines of both printing programs: numbers on the plan line, numbers of events, and endings.
@@ -69,6 +70,7 @@ fn expected(name: &str) -> Vec<String> {
             all.extend(answers.iter().map(|answer| format!("{call} {answer}")));
         }
         all.extend(SHAPES.iter().chain(&TENS).map(|key| key.to_string()));
+        all.extend(soundness::keys().map(str::to_string));
         return all;
     }
     all.extend(printing());
@@ -101,7 +103,7 @@ fn probe_keys(text: &str) -> Vec<String> {
         let answer = if of_plan { "plan" } else { number };
         let more = match (call, number) {
             ("16", _) => 32,
-            ("17" | "24", _) => 9,
+            ("17" | "24", _) => 17,
             ("21", "103") | ("22", _) => 1,
             ("18" | "19" | "20" | "21" | "23", _) => 0,
             // A number that is no call's is answered with itself.

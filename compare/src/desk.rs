@@ -3,8 +3,10 @@
 use crate::asks::{self, Ask, READING};
 use crate::count::Count;
 use crate::draw::Draw;
+use crate::icalendar;
 use crate::programs::{Shown, Way};
 use crate::texts;
+use oracle::pack;
 use std::io;
 use std::sync::atomic::{AtomicBool, AtomicU64, Ordering};
 use std::sync::Mutex;
@@ -33,6 +35,8 @@ pub struct Found {
     pub way: Way,
     pub ours: Shown,
     pub theirs: Shown,
+    /// What is wrong with what ours said, where that can be told from it alone.
+    pub fault: Option<String>,
 }
 
 /// What a comparison brought.
@@ -43,7 +47,7 @@ pub struct Compared {
 }
 
 /// Do they differ, or does one end as `desk` never does? The line about wrong usage is each program's own: it must be one
-/// line that names every verb that is compared, and nothing else is said.
+/// line that names every verb that is compared, and nothing else is said. The line about a listing that is too much is not.
 pub fn differ(verbs: &[&str], ours: &Shown, theirs: &Shown) -> bool {
     let [ours, theirs] = [ours, theirs].map(|shown| plain(verbs, shown));
     ours != theirs || !ENDINGS.contains(&ours.ended.as_str())
@@ -51,6 +55,9 @@ pub fn differ(verbs: &[&str], ours: &Shown, theirs: &Shown) -> bool {
 
 fn plain(verbs: &[&str], shown: &Shown) -> Shown {
     let mut shown = shown.clone();
+    if too_much(&shown) {
+        return shown;
+    }
     let text = String::from_utf8_lossy(&shown.errors).into_owned();
     let one_line = text.ends_with('\n') && text.lines().count() == 1;
     let words: Vec<&str> = text
@@ -62,11 +69,38 @@ fn plain(verbs: &[&str], shown: &Shown) -> Shown {
     shown
 }
 
+/// Is it said that a listing is too much?
+fn too_much(shown: &Shown) -> bool {
+    shown.ended == ENDINGS[2] && shown.errors == format!("{}\n", pack::TOO_MUCH).into_bytes()
+}
+
+/// What is wrong with what was said, where that can be told without the other program: a calendar is read again and held to
+/// the sheet.
+pub fn fault(words: &[String], input: &[u8], shown: &Shown) -> Option<String> {
+    let [verb, origin @ ..] = words else {
+        return None;
+    };
+    if verb != "calendar" || shown.ended != ENDINGS[0] {
+        return None;
+    }
+    let numbers: Option<Vec<i64>> = origin.iter().map(|word| word.parse().ok()).collect();
+    match numbers.and_then(|numbers| numbers.try_into().ok()) {
+        Some(origin) => icalendar::fault(input, origin, &shown.bytes),
+        None => Some("a calendar of words that are none".to_string()),
+    }
+}
+
 /// What came up in what was said of an ask.
 fn keys(ask: &Ask, shown: &Shown) -> Vec<String> {
     let verb = ask.words.first().map_or("", String::as_str);
+    if verb == "pack" && too_much(shown) {
+        return vec!["pack too much".to_string()];
+    }
     if shown.ended == ENDINGS[2] {
         return vec!["wrong usage".to_string()];
+    }
+    if verb == "lighter" && shown.ended == ENDINGS[0] {
+        return vec![dropped(&shown.errors)];
     }
     let file = !matches!(verb, "test" | "worst");
     if file && shown.ended == ENDINGS[0] && shown.errors.is_empty() {
@@ -88,8 +122,16 @@ fn keys(ask: &Ask, shown: &Shown) -> Vec<String> {
         }
         keys
     };
+    let expected = || {
+        let (what, number) = line
+            .strip_prefix("pack: expected ")?
+            .split_once(", at line ")?;
+        let known = pack::EXPECTED.contains(&what) && number.parse::<u32>().is_ok();
+        known.then(|| vec![format!("pack expected {what}")])
+    };
     match (verb, &words[..]) {
         _ if !silent.is_empty() || line.contains('\n') => {}
+        ("pack", _) if refused && expected().is_some() => return expected().unwrap_or_default(),
         ("import", ["import", number, _]) if refused => return vec![format!("import {number}")],
         (_, ["plan", number, _]) if refused => return vec![format!("{verb} plan {number}")],
         (_, [name, number]) if refused && *name == verb => return vec![format!("{verb} {number}")],
@@ -100,6 +142,20 @@ fn keys(ask: &Ask, shown: &Shown) -> Vec<String> {
         _ => {}
     }
     vec![format!("unknown answer to {verb}: {line:?}")]
+}
+
+/// What came up in the lines about the records that went.
+fn dropped(errors: &[u8]) -> String {
+    let text = String::from_utf8_lossy(errors);
+    let number = |line: &str| line.strip_prefix("dropped ")?.parse::<u32>().ok();
+    let whole = text.is_empty() || text.ends_with('\n');
+    if !whole || text.lines().any(|line| number(line).is_none()) {
+        return format!("unknown lines of lighter: {text:?}");
+    }
+    match text.is_empty() {
+        true => "lighter dropped none".to_string(),
+        false => "lighter dropped some".to_string(),
+    }
 }
 
 /// What must come up for these verbs: what is said, and the cases.
@@ -119,12 +175,18 @@ pub fn expected(verbs: &[&str]) -> Vec<String> {
             "worst" => &["minute", "minute past projection 0", "13", "60"],
             "day" => &["file", "13", "60"],
             "close" => &["file", "61", "62", "63"],
+            "calendar" => &["file", "31", "51"],
+            "lighter" => &["dropped none", "dropped some", "13", "60"],
+            "pack" => &["file", "too much"],
             _ => &["file", "40", "41", "42", "43"],
         };
         let own = own.iter().map(|own| own.to_string());
         let said: Vec<String> = match verb {
             "import" => own
                 .chain(texts::READERS.map(|number| number.to_string()))
+                .collect(),
+            "pack" => own
+                .chain(pack::EXPECTED.map(|what| format!("expected {what}")))
                 .collect(),
             _ => own.chain(plan).collect(),
         };
@@ -217,7 +279,8 @@ fn work(worker: usize, shared: &Shared) -> io::Result<Option<Found>> {
             }
             let way = way(&mut draw, &ask);
             let (ours, theirs) = (shared.run)(worker, &ask, way)?;
-            if differ(shared.verbs, &ours, &theirs) {
+            let fault = fault(&ask.words, &ask.input, &ours);
+            if fault.is_some() || differ(shared.verbs, &ours, &theirs) {
                 return Ok(Some(Found {
                     batch,
                     k,
@@ -225,6 +288,7 @@ fn work(worker: usize, shared: &Shared) -> io::Result<Option<Found>> {
                     way,
                     ours,
                     theirs,
+                    fault,
                 }));
             }
             shared.asks.fetch_add(1, Ordering::Relaxed);

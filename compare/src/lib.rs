@@ -1,13 +1,17 @@
 //! What the comparison and the games share: drawing of plans, events and whole inputs, running of programs, counting.
 
 pub mod asks;
+pub mod calendars;
 pub mod count;
 pub mod damage;
 pub mod desk;
 pub mod draw;
 pub mod events;
+pub mod icalendar;
 pub mod inputs;
+pub mod lighters;
 pub mod links;
+pub mod listings;
 pub mod plans;
 pub mod player;
 pub mod printed;
@@ -15,4 +19,5 @@ pub mod programs;
 pub mod requests;
 pub mod sheets;
 pub mod smaller;
+pub mod soundness;
 pub mod texts;

@@ -9,6 +9,7 @@ use compare::links;
 use compare::programs::{self, Both, Shown, Way};
 use compare::requests;
 use compare::smaller;
+use compare::soundness;
 use std::io;
 use std::path::{Path, PathBuf};
 use std::process::ExitCode;
@@ -176,8 +177,9 @@ fn work(pairs: &[Both], shared: &Shared) -> io::Result<Option<Found>> {
                     return Ok(None);
                 }
                 let way = way(&mut draw, &input);
-                let of_links = if probe {
-                    links::of_requests(&input.bytes)
+                let of_input = if probe {
+                    let of_links = links::of_requests(&input.bytes);
+                    [of_links, soundness::of_requests(&input.bytes)].concat()
                 } else {
                     links::of_input(&input.bytes)
                 };
@@ -197,7 +199,7 @@ fn work(pairs: &[Both], shared: &Shared) -> io::Result<Option<Found>> {
                         }));
                     }
                     count.add(&both.name, &ours.bytes);
-                    for key in &of_links {
+                    for key in &of_input {
                         count.one(key.to_string());
                     }
                 }

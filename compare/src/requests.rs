@@ -7,7 +7,7 @@ use crate::events;
 use crate::inputs::Input;
 use crate::links;
 use crate::plans::{self, Sizes, FULL};
-use oracle::board::{Board, PLACES};
+use oracle::board::{self, Board, Clause, PLACES};
 use oracle::event;
 use oracle::plan::{Link, Plan, RawRecord, BOUND, RECORD, ROOM};
 use oracle::plan_test;
@@ -60,15 +60,12 @@ impl Requests {
         self.records(plan.records() as u32, &plan.to_records());
     }
 
-    fn board(&mut self, board: &Board) {
-        self.board_of(board.clock, board.done, &board.minutes);
-    }
-
-    /// A board with the minutes of the first points; those of the others stay.
-    pub fn board_of(&mut self, clock: u32, done: u32, minutes: &[u32]) {
-        self.ask(3, [0; 3], [clock, done, 0]);
-        for (point, &minute) in minutes.iter().enumerate() {
-            self.ask(4, [point as u8, 0, 0], [minute, 0, 0]);
+    pub fn board(&mut self, board: &Board) {
+        self.ask(3, [0; 3], [board.clock, board.done, 0]);
+        for (asked, all) in [(4, &board.minutes), (8, &board.numbers)] {
+            for (point, &number) in all.iter().enumerate() {
+                self.ask(asked, [point as u8, 0, 0], [number, 0, 0]);
+            }
         }
     }
 
@@ -89,9 +86,9 @@ impl Requests {
     }
 }
 
-/// The batch of this number: every thirteen hold each kind.
+/// The batch of this number: every fourteen hold each kind.
 pub fn batch(draw: &mut Draw, number: u64) -> Vec<Input> {
-    match number % 13 {
+    match number % 14 {
         0..=1 => boards(draw, true),
         2..=3 => boards(draw, false),
         4 | 11 => any_plans(draw),
@@ -101,7 +98,8 @@ pub fn batch(draw: &mut Draw, number: u64) -> Vec<Input> {
         8 => lists(draw),
         9 => streams(draw),
         10 | 12 => files(draw),
-        _ => unreachable!("a remainder of thirteen"),
+        13 => event_numbers(draw),
+        _ => unreachable!("a remainder of fourteen"),
     }
 }
 
@@ -181,7 +179,71 @@ fn sound(draw: &mut Draw, plan: &Plan) -> Board {
             set_done(&mut board, link.c, minute);
         }
     }
-    settled(draw, plan, board)
+    let board = settled(draw, plan, board);
+    numbered(draw, plan, board)
+}
+
+/// With event numbers that fit the minutes: at each minute an event for each foreman's point, in any order, and the watched
+/// points in some of them or in events of their own. Where a link's start and end are at one minute, the end comes later.
+fn numbered(draw: &mut Draw, plan: &Plan, mut board: Board) -> Board {
+    let done: Vec<usize> = (0..PLACES).filter(|&point| board.is_done(point)).collect();
+    let mut minutes: Vec<u32> = done.iter().map(|&point| board.minutes[point]).collect();
+    minutes.sort_unstable();
+    minutes.dedup();
+    let mut all: Vec<Vec<usize>> = Vec::new();
+    for minute in minutes {
+        let now = done.iter().filter(|&&point| board.minutes[point] == minute);
+        let now: Vec<usize> = now.copied().collect();
+        let (watched, others): (Vec<usize>, Vec<usize>) =
+            now.iter().partition(|&&point| plan.watched(point));
+        let mut events: Vec<Vec<usize>> = others.into_iter().map(|point| vec![point]).collect();
+        let mut last = Vec::new();
+        for point in watched {
+            if plan
+                .link_to(point)
+                .is_some_and(|link| now.contains(&link.a))
+            {
+                last.push(vec![point]);
+            } else if events.is_empty() || draw.one_in(3) {
+                events.push(vec![point]);
+            } else {
+                let place = draw.below(events.len());
+                events[place].push(point);
+            }
+        }
+        draw.shuffle(&mut events);
+        all.extend(events);
+        // What hangs on others comes after them.
+        while !last.is_empty() {
+            let free = |event: &Vec<usize>| {
+                let link = plan.link_to(event[0]);
+                !last
+                    .iter()
+                    .any(|other| link.is_some_and(|link| other[0] == link.a))
+            };
+            let next = last.iter().position(free).unwrap_or(0);
+            all.push(last.remove(next));
+        }
+    }
+    put_numbers(&mut board, &all);
+    board
+}
+
+/// Numbers the events from 1, in this order; no other point has a number.
+fn put_numbers(board: &mut Board, events: &[Vec<usize>]) {
+    board.numbers = [0; PLACES];
+    for (number, points) in (1..).zip(events) {
+        for &point in points {
+            board.numbers[point] = number;
+        }
+    }
+}
+
+/// The events of a sound board, in order: the points of each.
+fn events_of(board: &Board) -> Vec<Vec<usize>> {
+    let last = board.numbers.iter().max().copied().unwrap_or(0);
+    let of = |number: u32| (0..PLACES).filter(move |&point| board.numbers[point] == number);
+    (1..=last).map(|number| of(number).collect()).collect()
 }
 
 /// A jump of the clock ends a long run early.
@@ -207,8 +269,23 @@ fn some_point(draw: &mut Draw, test: impl Fn(usize) -> bool) -> Option<usize> {
     (!all.is_empty()).then(|| draw.pick(&all))
 }
 
-/// Moves a board to the edge of one clause of soundness, or one past it; says which.
+/// Moves a board to the edge of one clause of soundness, or one past it; says which. Most of them are numbered anew, so that
+/// the numbers say nothing against it.
 fn one_off(draw: &mut Draw, plan: &Plan, board: &mut Board) -> &'static str {
+    if draw.one_in(4) {
+        let off = draw.pick(&NUMBERS);
+        numbers_off(draw, plan, board, off);
+        return off;
+    }
+    let what = minutes_off(draw, plan, board);
+    if !draw.one_in(5) {
+        *board = numbered(draw, plan, *board);
+    }
+    what
+}
+
+/// The same of what document 01 says: clock, set and minutes.
+fn minutes_off(draw: &mut Draw, plan: &Plan, board: &mut Board) -> &'static str {
     let was = *board;
     let links = plan.links.clone();
     let by = draw.below(2) as i64;
@@ -287,9 +364,10 @@ fn one_off(draw: &mut Draw, plan: &Plan, board: &mut Board) -> &'static str {
         8 => {
             let wild = [u32::MAX, 1 << 31, 3_200_001, draw.next() as u32];
             let value = draw.pick(&wild);
-            match draw.below(3) {
+            match draw.below(4) {
                 0 => board.clock = value,
                 1 => board.done = value,
+                2 => board.numbers[draw.below(PLACES)] = value,
                 _ => board.minutes[draw.below(PLACES)] = value,
             }
             "a wild number"
@@ -299,6 +377,192 @@ fn one_off(draw: &mut Draw, plan: &Plan, board: &mut Board) -> &'static str {
             "one point more or less done"
         }
     }
+}
+
+/// What may be wrong with the event numbers of a board, each by one thing; the last ones change nothing of its soundness.
+const NUMBERS: [&str; 15] = [
+    "a gap",
+    "a gap within the count",
+    "a number past 32",
+    "2^32 - 1",
+    "numbers from 0",
+    "a number 0 of a done point",
+    "a number of a point that is not done",
+    "minutes that fall",
+    "two minutes for one number",
+    "two foreman's points of one number",
+    "a start in the event of its end",
+    "a start in a later event than its end",
+    "two events at one minute the other way round",
+    "an end in an event of its own",
+    "as they were",
+];
+
+/// Changes the event numbers of a sound board like that, where it can.
+fn numbers_off(draw: &mut Draw, plan: &Plan, board: &mut Board, off: &str) {
+    let was = *board;
+    let mut events = events_of(board);
+    let last = events.len();
+    let minute = |event: &Vec<usize>| was.minutes[event[0]];
+    let foreman = |event: &Vec<usize>| event.iter().any(|&point| !plan.watched(point));
+    // Two neighbouring events, of one minute or of two.
+    let pairs = |same: bool| -> Vec<usize> {
+        let all = 1..last.max(1);
+        all.filter(|&k| (minute(&events[k - 1]) == minute(&events[k])) == same)
+            .collect()
+    };
+    let ended = |link: &&Link| was.is_done(link.a) && was.is_done(link.c);
+    let ended: Vec<&Link> = plan.links.iter().filter(ended).collect();
+    match off {
+        "a gap" | "a gap within the count" if last > 0 => {
+            let from = draw.edgy(1, last as i64) as u32;
+            for number in board.numbers.iter_mut().filter(|number| **number >= from) {
+                *number += 1;
+            }
+        }
+        "a number past 32" | "2^32 - 1" if last > 0 => {
+            let past = match off {
+                "2^32 - 1" => u32::MAX,
+                _ => draw.pick(&[33, 34, 256 + last as u32, 65_536 + last as u32, 1 << 31]),
+            };
+            for &point in &events[last - 1] {
+                board.numbers[point] = past;
+            }
+        }
+        "numbers from 0" => {
+            for number in &mut board.numbers {
+                *number = number.saturating_sub(1);
+            }
+        }
+        "a number 0 of a done point" => {
+            if let Some(point) = some_point(draw, |point| was.is_done(point)) {
+                board.numbers[point] = 0;
+            }
+        }
+        "a number of a point that is not done" => {
+            if let Some(point) = some_point(draw, |point| !was.is_done(point)) {
+                let last = last as u32;
+                board.numbers[point] = draw.pick(&[1, last.max(1), last + 1, 32, u32::MAX]);
+            }
+        }
+        "minutes that fall" | "two events at one minute the other way round" => {
+            let pairs = pairs(off != "minutes that fall");
+            if !pairs.is_empty() {
+                let k = draw.pick(&pairs);
+                events.swap(k - 1, k);
+                put_numbers(board, &events);
+            }
+        }
+        "two minutes for one number" | "two foreman's points of one number" => {
+            let foremen = off != "two minutes for one number";
+            let mut pairs = pairs(foremen);
+            pairs.retain(|&k| (foreman(&events[k - 1]) && foreman(&events[k])) == foremen);
+            if !pairs.is_empty() {
+                let k = draw.pick(&pairs);
+                let more = events.remove(k);
+                events[k - 1].extend(more);
+                put_numbers(board, &events);
+            }
+        }
+        "a start in the event of its end" | "a start in a later event than its end"
+            if !ended.is_empty() =>
+        {
+            let link = draw.pick(&ended);
+            for event in &mut events {
+                event.retain(|&point| point != link.c);
+            }
+            events.retain(|event| !event.is_empty());
+            let with_a = events.iter().position(|event| event.contains(&link.a));
+            let start = with_a.unwrap_or(0);
+            match off {
+                "a start in the event of its end" => events[start].push(link.c),
+                _ => events.insert(start, vec![link.c]),
+            }
+            put_numbers(board, &events);
+        }
+        "an end in an event of its own" => {
+            let shared = |point: usize| {
+                let with = |event: &&Vec<usize>| event.contains(&point) && event.len() > 1;
+                plan.watched(point) && events.iter().any(|event| with(&event))
+            };
+            if let Some(point) = some_point(draw, shared) {
+                let place = events.iter().position(|event| event.contains(&point));
+                let place = place.unwrap_or(0);
+                events[place].retain(|&other| other != point);
+                let before = draw.below(2);
+                events.insert(place + before, vec![point]);
+                put_numbers(board, &events);
+            }
+        }
+        _ => {}
+    }
+}
+
+/// What has to be broken of such a board, if anything; more than one where one follows from the others.
+fn meant(off: &str) -> &'static [Clause] {
+    match off {
+        "a gap" | "a gap within the count" | "a number past 32" | "2^32 - 1" => &[Clause::Gaps],
+        "numbers from 0" => &[Clause::Number],
+        "a number 0 of a done point" => &[Clause::Number],
+        "a number of a point that is not done" => &[Clause::NoNumber],
+        "minutes that fall" => &[Clause::Falling],
+        "two minutes for one number" => &[Clause::OneMinute],
+        "two foreman's points of one number" => &[Clause::OneForeman],
+        "a start in the event of its end" => &[Clause::OneMinute, Clause::Earlier],
+        "a start in a later event than its end" => &[Clause::Falling, Clause::Earlier],
+        _ => &[],
+    }
+}
+
+/// Boards with event numbers one clause off, nothing else being wrong with them, and boards on the other side of it.
+fn event_numbers(draw: &mut Draw) -> Vec<Input> {
+    let mut inputs = Vec::new();
+    for off in NUMBERS {
+        let mut requests = Requests::default();
+        let within = off == "a gap within the count";
+        for _ in 0..if within { 300 } else { 60 } {
+            let plan = match draw.below(4) {
+                0 if !within => Plan {
+                    ponds: vec![0; 32],
+                    ..Plan::default()
+                },
+                1 => plans::any_trucks(draw),
+                _ => good_plan(draw),
+            };
+            let at = if draw.one_in(2) {
+                reached(draw, &plan)
+            } else {
+                sound(draw, &plan)
+            };
+            let mut other = at;
+            numbers_off(draw, &plan, &mut other, off);
+            let changed = other != at || meant(off).is_empty();
+            if !changed || board::broken(&plan, &other) != meant(off) {
+                continue;
+            }
+            // Points of one event leave room for a gap.
+            if within && other.numbers.iter().any(|number| *number > at.count()) {
+                continue;
+            }
+            let event = event_for(draw, &plan, &at);
+            requests.plan(&plan);
+            requests.buffer(&event, RECORD, 0);
+            requests.board(&other);
+            for asked in [REPLY, VERDICT, JUDGE, TAKE, REPLY] {
+                requests.call(asked);
+            }
+            requests.board(&other);
+            requests.ask(STREAM, [0; 3], [3, 1, 0]);
+            if draw.one_in(2) {
+                break;
+            }
+        }
+        inputs.push(Input {
+            what: format!("event numbers: {off}"),
+            bytes: requests.0,
+        });
+    }
+    inputs
 }
 
 /// Asks everything about boards of one plan: sound ones, or with `off` boards at the edge of a clause of soundness or past it.
@@ -474,7 +738,7 @@ fn events_of_any_length(draw: &mut Draw) -> Vec<Input> {
         requests.buffer(&event, length, fill);
         requests.call(TAKE);
     }
-    requests.call(draw.pick(&[8, 15, 25, 255]));
+    requests.call(draw.pick(&[9, 15, 25, 255]));
     vec![Input {
         what: "events of any length".to_string(),
         bytes: requests.0,

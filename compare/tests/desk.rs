@@ -6,11 +6,16 @@ use compare::links;
 use compare::programs::{self, Shown, Way};
 use compare::smaller;
 use oracle::board::{self, Board, Outcome, Place};
+use oracle::calendar::{self, calendar, Origin};
 use oracle::desk::{wrong_usage, Said, Verb};
 use oracle::event;
 use oracle::import::{fields, import, lines};
+use oracle::lighter::{lighter, passes, tables, without, Lighter};
+use oracle::pack::{self, pack, Refused};
 use oracle::plan::{self, Link, Ordinary, Plan, BOUND, OLD_ORDINARIES};
 use oracle::plan_test::{self, Answer, Fault, Odometer};
+use oracle::text;
+use oracle::verdict::{self, Verdict};
 use oracle::worst::{self, Worst};
 use oracle::{close, Refusal};
 use std::cell::RefCell;
@@ -60,10 +65,10 @@ fn the_same_agree_and_all_comes_up() {
         asks
     };
     let asks = all_comes_up(&asks::VERBS, 1);
-    assert!((500..1_000).contains(&asks), "{asks}");
+    assert!((700..1_500).contains(&asks), "{asks}");
     for seed in 2..8 {
         // A verb left out is not waited for.
-        all_comes_up(&["import", "close"], seed);
+        all_comes_up(&["import", "close", "calendar", "lighter", "pack"], seed);
     }
 }
 
@@ -414,6 +419,325 @@ const CLOSERS: [(&str, Closer); 11] = [
     }),
 ];
 
+/// The plan and the board of a sheet, or the plan's refusal.
+fn sheet(input: &[u8]) -> Result<(Plan, Board), String> {
+    let bad = |(number, record)| format!("plan {number} {record}");
+    text::board_after(input).unwrap().map_err(bad)
+}
+
+/// The calendar of a sheet, or its refusal.
+fn calendar_of(input: &[u8], origin: [u32; 5]) -> Result<String, String> {
+    let (plan, board) = sheet(input)?;
+    let text = calendar(&plan, &board, &Origin::of(origin));
+    text.map_err(|number| format!("calendar {number}"))
+}
+
+/// The calendar where months have other last days, and hours and minutes may be any up to these.
+fn calendar_with(
+    input: &[u8],
+    origin: [u32; 5],
+    years: std::ops::RangeInclusive<u32>,
+    last_day: fn(u32, u32) -> u32,
+    of_day: [u32; 2],
+) -> Result<String, String> {
+    let (plan, board) = sheet(input)?;
+    if !board::all_done(&plan, &board) {
+        return Err("calendar 31".to_string());
+    }
+    let [year, month, day, hour, minute] = origin;
+    let is_one = years.contains(&year)
+        && (1..=12).contains(&month)
+        && (1..=last_day(year, month)).contains(&day)
+        && hour <= of_day[0]
+        && minute <= of_day[1];
+    if !is_one {
+        return Err("calendar 51".to_string());
+    }
+    Ok(calendar::text(&plan, &board, |minutes| {
+        let [mut year, mut month, mut day] = [year, month, day];
+        let mut left = 60 * hour + minute + minutes;
+        while left >= 1_440 {
+            left -= 1_440;
+            day += 1;
+            if day > last_day(year, month) {
+                (month, day) = (month + 1, 1);
+            }
+            if month > 12 {
+                (year, month) = (year + 1, 1);
+            }
+        }
+        let (hour, minute) = (left / 60, left % 60);
+        format!("{year:04}{month:02}{day:02}T{hour:02}{minute:02}00Z")
+    }))
+}
+
+fn last_day(year: u32, month: u32) -> u32 {
+    match month {
+        4 | 6 | 9 | 11 => 30,
+        2 if year % 400 == 0 || year % 4 == 0 && year % 100 != 0 => 29,
+        2 => 28,
+        _ => 31,
+    }
+}
+
+const YEARS: std::ops::RangeInclusive<u32> = 1970..=2099;
+
+type Calendar = fn(&[u8], [u32; 5]) -> Result<String, String>;
+
+const CALENDARS: [(&str, Calendar); 30] = [
+    ("2100 is a leap year", |input, origin| {
+        let days = |year, month| match (year, month) {
+            (2100, 2) => 29,
+            _ => last_day(year, month),
+        };
+        calendar_with(input, origin, YEARS, days, [23, 59])
+    }),
+    ("2000 is no leap year", |input, origin| {
+        let days = |year, month| match (year, month) {
+            (2000, 2) => 28,
+            _ => last_day(year, month),
+        };
+        calendar_with(input, origin, YEARS, days, [23, 59])
+    }),
+    ("no leap days", |input, origin| {
+        let days = |_, month| last_day(2023, month);
+        calendar_with(input, origin, YEARS, days, [23, 59])
+    }),
+    ("a leap day each year", |input, origin| {
+        let days = |_, month| last_day(2024, month);
+        calendar_with(input, origin, YEARS, days, [23, 59])
+    }),
+    ("September has 31 days", |input, origin| {
+        let days = |year, month| last_day(year, month) + u32::from(month == 9);
+        calendar_with(input, origin, YEARS, days, [23, 59])
+    }),
+    ("July has 30 days", |input, origin| {
+        let days = |year, month| last_day(year, month) - u32::from(month == 7);
+        calendar_with(input, origin, YEARS, days, [23, 59])
+    }),
+    ("1969 is taken", |input, origin| {
+        calendar_with(input, origin, 1969..=2099, last_day, [23, 59])
+    }),
+    ("2100 is taken", |input, origin| {
+        calendar_with(input, origin, 1970..=2100, last_day, [23, 59])
+    }),
+    ("year 0 is taken", |input, origin| {
+        calendar_with(input, origin, 0..=2099, last_day, [23, 59])
+    }),
+    ("hour 24 is taken", |input, origin| {
+        calendar_with(input, origin, YEARS, last_day, [24, 59])
+    }),
+    ("minute 60 is taken", |input, origin| {
+        calendar_with(input, origin, YEARS, last_day, [23, 60])
+    }),
+    ("numbers are kept in 16 bits", |input, origin| {
+        calendar_of(input, origin.map(|number| number & 0xffff))
+    }),
+    ("all but the year are kept in 8 bits", |input, origin| {
+        let [year, rest @ ..] = origin;
+        let [month, day, hour, minute] = rest.map(|number| number & 255);
+        calendar_of(input, [year, month, day, hour, minute])
+    }),
+    ("51 before 31", |input, origin| {
+        match calendar_of(input, origin) {
+            Err(said) if said == "calendar 31" && !Origin::of(origin).is_one() => {
+                Err("calendar 51".to_string())
+            }
+            other => other,
+        }
+    }),
+    ("51 where it ends past 2099", |input, origin| {
+        let text = calendar_of(input, origin)?;
+        match text.contains("DTSTART:21") {
+            true => Err("calendar 51".to_string()),
+            false => Ok(text),
+        }
+    }),
+    (
+        "51 before the plan's own number",
+        |input, origin| match calendar_of(input, origin) {
+            Err(_) if !Origin::of(origin).is_one() => Err("calendar 51".to_string()),
+            other => other,
+        },
+    ),
+    ("LF alone", |input, origin| {
+        Ok(calendar_of(input, origin)?.replace('\r', ""))
+    }),
+    ("local time", |input, origin| {
+        Ok(calendar_of(input, origin)?.replace("00Z", "00"))
+    }),
+    ("the point's number alone is the UID", |input, origin| {
+        let text = calendar_of(input, origin)?;
+        let line = |line: &str| match line.strip_prefix("UID:") {
+            Some(uid) => format!("UID:{}\r\n", uid.split('-').next().unwrap_or("")),
+            None => format!("{line}\r\n"),
+        };
+        Ok(text.lines().map(line).collect())
+    }),
+    ("no pond is shown as nothing", |input, origin| {
+        let text = calendar_of(input, origin)?;
+        Ok(text.replace(" 0\r\nEND", "\r\nEND"))
+    }),
+    ("pond codes are signed", |input, origin| {
+        let text = calendar_of(input, origin)?;
+        Ok(text.replace(" 4294967295\r", " -1\r"))
+    }),
+    ("PRODID first", |input, origin| {
+        let [version, product] = ["VERSION:2.0\r\n", "PRODID:-//Ponds//Sheets//EN\r\n"];
+        let text = calendar_of(input, origin)?;
+        Ok(text.replace(
+            &format!("{version}{product}"),
+            &format!("{product}{version}"),
+        ))
+    }),
+    ("DTSTAMP is minute 0", |input, origin| {
+        let text = calendar_of(input, origin)?;
+        let first = Origin::of(origin).stamp(0);
+        let line = |line: &str| match line.strip_prefix("DTSTAMP:") {
+            Some(_) => format!("DTSTAMP:{first}\r\n"),
+            None => format!("{line}\r\n"),
+        };
+        Ok(text.lines().map(line).collect())
+    }),
+    ("events in order of minutes", |input, origin| {
+        let text = calendar_of(input, origin)?;
+        let (plan, board) = sheet(input)?;
+        let mut parts: Vec<&str> = text.split("BEGIN:VEVENT").collect();
+        let head = parts.remove(0).to_string();
+        let end = "END:VCALENDAR\r\n";
+        let mut order: Vec<usize> = (0..plan.points()).collect();
+        order.sort_by_key(|point| board.minutes[*point]);
+        let events = order
+            .iter()
+            .map(|point| format!("BEGIN:VEVENT{}", parts[*point].trim_end_matches(end)));
+        Ok(head + &events.collect::<String>() + end)
+    }),
+    ("a broken sheet is not finished", |input, origin| {
+        let text = calendar_of(input, origin)?;
+        let (plan, board) = sheet(input)?;
+        match verdict::verdict(&plan, &board) {
+            Ok(Verdict::Kept) => Ok(text),
+            _ => Err("calendar 31".to_string()),
+        }
+    }),
+    ("a refused event ends it", |input, origin| {
+        let mark = input.chunks(16).position(|record| record == [255; 16]);
+        let Some(mark) = mark else {
+            return calendar_of(input, origin);
+        };
+        let (plan, _) = sheet(&input[..16 * (mark + 1)])?;
+        let mut at = Board::fresh();
+        let mut end = 16 * (mark + 1);
+        for record in input[end..].chunks_exact(16) {
+            let (number, after) = event::take(&plan, &at, record);
+            if number != 0 {
+                break;
+            }
+            (at, end) = (after, end + 16);
+        }
+        calendar_of(&input[..end], origin)
+    }),
+    ("an unfinished last record is filled up", |input, origin| {
+        let mut input = input.to_vec();
+        if input.chunks(16).any(|record| record == [255; 16]) {
+            input.resize(input.len().div_ceil(16) * 16, 0);
+        }
+        calendar_of(&input, origin)
+    }),
+    ("the last mark ends the plan", |input, origin| {
+        let all: Vec<&[u8]> = input.chunks(16).collect();
+        let mark = all.iter().rposition(|record| *record == [255; 16]);
+        let first = all.iter().position(|record| *record == [255; 16]);
+        match (first, mark) {
+            (Some(first), Some(mark)) => {
+                let input = [&input[..16 * first], &input[16 * mark..]].concat();
+                calendar_of(&input, origin)
+            }
+            _ => calendar_of(input, origin),
+        }
+    }),
+    (
+        "a sheet that is not finished, as far as it goes",
+        |input, origin| {
+            let (plan, board) = sheet(input)?;
+            match calendar_of(input, origin) {
+                Err(said) if said == "calendar 31" && Origin::of(origin).is_one() => {
+                    let stamp = |minute| Origin::of(origin).stamp(minute);
+                    Ok(calendar::text(&plan, &board, stamp))
+                }
+                other => other,
+            }
+        },
+    ),
+    ("long sheets end at 1,000,000", |input, origin| {
+        let text = calendar_of(input, origin)?;
+        let (plan, mut board) = sheet(input)?;
+        if board.clock < 1_000_000 {
+            return Ok(text);
+        }
+        for minute in &mut board.minutes {
+            *minute = (*minute).min(1_000_000);
+        }
+        let stamp = |minute| Origin::of(origin).stamp(minute);
+        Ok(calendar::text(&plan, &board, stamp))
+    }),
+];
+
+#[test]
+fn wrong_calendars_are_found() {
+    for (what, wrong) in CALENDARS {
+        found("calendar", what, &|ask| {
+            let words: Vec<&str> = ask.words.iter().map(String::as_str).collect();
+            let Some(Verb::Calendar(Origin { date, hour, minute })) = Verb::of(&words) else {
+                return right(ask);
+            };
+            let origin = [date.year, date.month, date.day, hour, minute];
+            file(wrong(&ask.input, origin).map(String::into_bytes))
+        });
+    }
+    found("calendar", "zeros in front are refused", &|ask| {
+        let zero = |word: &String| word.len() > 1 && word.starts_with('0');
+        match &ask.words[..] {
+            [_, origin @ ..] if origin.iter().any(zero) => wrong_usage(),
+            _ => right(ask),
+        }
+    });
+    found("calendar", "a number is taken modulo 2 to the 32", &|ask| {
+        let words: Vec<&str> = ask
+            .words
+            .iter()
+            .map(|word| if word == "4294967296" { "0" } else { word })
+            .collect();
+        Verb::of(&words).map_or_else(wrong_usage, |verb| verb.said(&ask.input))
+    });
+    found(
+        "calendar",
+        "a number too large is no date",
+        &|ask| match &ask.words[..] {
+            [verb, _, _, _, _, _] if verb == "calendar" && right(ask).status == 2 => {
+                file(Err("calendar 51".to_string()))
+            }
+            _ => right(ask),
+        },
+    );
+}
+
+/// A calendar that both programs write is read again: what is wrong with it is found even so.
+#[test]
+fn faults_of_both_are_found() {
+    let run = |_: usize, ask: &Ask, _: Way| {
+        let mut said = right(ask);
+        if said.status == 0 {
+            said.output = replaced(&said.output, b"DTSTAMP:2", b"DTSTAMP:1");
+        }
+        Ok((shown(said.clone()), shown(said)))
+    };
+    let limits = limits(&["calendar"], 1);
+    let compared = desk::compare(&run, &["calendar"], 1, limits, 2).unwrap();
+    let fault = compared.found.and_then(|found| found.fault);
+    assert!(fault.is_some_and(|fault| fault.contains("another minute")));
+}
+
 /// The plan of an input, or its refusal.
 fn read(input: &[u8]) -> Result<Plan, String> {
     plan::read(input).map_err(|(number, record)| format!("plan {number} {record}"))
@@ -432,6 +756,481 @@ fn wrong_closings_are_found() {
             })
         });
     }
+}
+
+/// Goes through the ordinary records in this order and leaves out those that `goes` lets go, from the plan so far and without it.
+fn lightened(
+    plan: &Plan,
+    order: impl Iterator<Item = usize>,
+    goes: impl Fn(&Plan, &Plan) -> bool,
+) -> Result<Lighter, u32> {
+    lighter(plan)?;
+    let kept = |gone: &[usize]| {
+        let all = plan.ordinary.iter().enumerate();
+        let left = all.filter(|(place, _)| !gone.contains(place));
+        Plan {
+            ordinary: left.map(|(_, one)| *one).collect(),
+            ..plan.clone()
+        }
+    };
+    let mut gone = Vec::new();
+    for place in order {
+        let before = kept(&gone);
+        gone.push(place);
+        if !goes(&before, &kept(&gone)) {
+            gone.pop();
+        }
+    }
+    gone.sort_unstable();
+    let first = plan.points() + plan.links.len();
+    Ok(Lighter {
+        plan: kept(&gone),
+        dropped: gone.iter().map(|place| first + place).collect(),
+    })
+}
+
+fn same_distances(a: &Plan, b: &Plan) -> bool {
+    tables(a).eq(tables(b))
+}
+
+type Lightener = fn(&Plan) -> Result<Lighter, u32>;
+
+const LIGHTERS: [(&str, Lightener); 15] = [
+    ("the test is not asked", |plan| {
+        lightened(plan, 0..plan.ordinary.len(), same_distances)
+    }),
+    ("distances are not asked", |plan| {
+        lightened(plan, 0..plan.ordinary.len(), |_, less| passes(less))
+    }),
+    ("distances of the first projection alone", |plan| {
+        lightened(plan, 0..plan.ordinary.len(), |before, less| {
+            passes(less) && tables(before).next() == tables(less).next()
+        })
+    }),
+    ("distances of the last projection alone", |plan| {
+        lightened(plan, 0..plan.ordinary.len(), |before, less| {
+            passes(less) && tables(before).last() == tables(less).last()
+        })
+    }),
+    ("the test of the first projection alone", |plan| {
+        lightened(plan, 0..plan.ordinary.len(), |before, less| {
+            let first: Vec<i64> = less.links.iter().map(|link| link.x).collect();
+            same_distances(before, less) && right_fault(less, &first).is_none()
+        })
+    }),
+    ("in the order from last to first", |plan| {
+        lightened(plan, (0..plan.ordinary.len()).rev(), |before, less| {
+            passes(less) && same_distances(before, less)
+        })
+    }),
+    ("each as if no other went", |plan| {
+        let right = lighter(plan)?;
+        let mut light = right.clone();
+        let first = plan.points() + plan.links.len();
+        light.dropped = (0..plan.ordinary.len())
+            .filter(|place| {
+                let less = without(plan, *place);
+                passes(&less) && same_distances(plan, &less)
+            })
+            .map(|place| first + place)
+            .collect();
+        let all = plan.ordinary.iter().enumerate();
+        let left = all.filter(|(place, _)| !light.dropped.contains(&(first + place)));
+        light.plan.ordinary = left.map(|(_, one)| *one).collect();
+        Ok(light)
+    }),
+    ("it stops at the first that stays", |plan| {
+        let mut light = lighter(plan)?;
+        let first = plan.points() + plan.links.len();
+        let go = (first..)
+            .zip(&light.dropped)
+            .take_while(|(number, dropped)| number == *dropped)
+            .count();
+        light.dropped.truncate(go);
+        light.plan.ordinary = plan.ordinary[go..].to_vec();
+        Ok(light)
+    }),
+    ("numbers in the plan so far", |plan| {
+        let mut light = lighter(plan)?;
+        for (gone, number) in light.dropped.iter_mut().enumerate() {
+            *number -= gone;
+        }
+        Ok(light)
+    }),
+    ("numbers among ordinary records", |plan| {
+        let mut light = lighter(plan)?;
+        for number in &mut light.dropped {
+            *number -= plan.points() + plan.links.len();
+        }
+        Ok(light)
+    }),
+    ("the last first in the list", |plan| {
+        let mut light = lighter(plan)?;
+        light.dropped.reverse();
+        Ok(light)
+    }),
+    ("60 before 13", |plan| lighter(plan).map_err(|_| 60)),
+    ("a plan that does not pass stays", |plan| {
+        match lighter(plan) {
+            Err(60) => Ok(Lighter {
+                plan: plan.clone(),
+                dropped: Vec::new(),
+            }),
+            other => other,
+        }
+    }),
+    ("pond codes are dropped", |plan| {
+        let mut light = lighter(plan)?;
+        light.plan.ponds.fill(0);
+        Ok(light)
+    }),
+    ("waits go too", |plan| {
+        let mut light = lighter(plan)?;
+        for place in (0..light.plan.waits.len()).rev() {
+            let mut less = light.plan.clone();
+            less.waits.remove(place);
+            if passes(&less) && same_distances(&light.plan, &less) {
+                light.plan = less;
+            }
+        }
+        Ok(light)
+    }),
+];
+
+#[test]
+fn wrong_lighter_plans_are_found() {
+    for (what, lightener) in LIGHTERS {
+        found("lighter", what, &|ask| {
+            of_verb("lighter", ask, |input| {
+                let light = read(input).and_then(|plan| {
+                    lightener(&plan).map_err(|number| format!("lighter {number}"))
+                });
+                match light {
+                    Err(refusal) => file(Err(refusal)),
+                    Ok(Lighter { plan, dropped }) => Said {
+                        output: plan.to_bytes(),
+                        errors: dropped
+                            .iter()
+                            .flat_map(|number| format!("dropped {number}\n").into_bytes())
+                            .collect(),
+                        status: 0,
+                    },
+                }
+            })
+        });
+    }
+    found("lighter", "what went is not said", &|ask| {
+        let mut said = right(ask);
+        if said.status == 0 {
+            said.errors.clear();
+        }
+        said
+    });
+    found("lighter", "what went is said with status 1", &|ask| {
+        let mut said = right(ask);
+        if said.status == 0 && !said.errors.is_empty() {
+            said.status = 1;
+        }
+        said
+    });
+}
+
+type Packed = Result<Vec<u8>, Refused>;
+type Packer = fn(&[u8]) -> Packed;
+
+/// The listing packed with another way to make a record.
+fn packed_by(listing: &[u8], record: fn(&[&[u8]]) -> Result<pack::Record, usize>) -> Packed {
+    if listing.len() > pack::LONGEST {
+        return Err(Refused::TooMuch);
+    }
+    let records = pack::records(listing, record)?;
+    match records.len() <= pack::MOST {
+        true => Ok(records.concat()),
+        false => Err(Refused::TooMuch),
+    }
+}
+
+/// The record of a line, each of whose words is changed first.
+fn with_words(words: &[&[u8]], change: fn(&[u8]) -> Vec<u8>) -> Result<pack::Record, usize> {
+    let changed: Vec<Vec<u8>> = words.iter().map(|word| change(word)).collect();
+    let changed: Vec<&[u8]> = changed.iter().map(Vec::as_slice).collect();
+    pack::record(&changed)
+}
+
+fn without_zeros(word: &[u8]) -> &[u8] {
+    let zeros = word.iter().take_while(|byte| **byte == b'0').count();
+    &word[zeros..]
+}
+
+const PACKERS: [(&str, Packer); 36] = [
+    ("CR parts words", |text| pack(&replaced(text, b"\r", b" "))),
+    ("CR ends a line", |text| {
+        pack(&replaced(&replaced(text, b"\r\n", b"\n"), b"\r", b"\n"))
+    }),
+    ("a last CR ends the line", |text| {
+        pack(text.strip_suffix(b"\r").unwrap_or(text))
+    }),
+    ("CR CR LF ends a line", |text| {
+        pack(&replaced(text, b"\r\r\n", b"\n"))
+    }),
+    ("CR LF ends no line", |text| {
+        pack(&replaced(text, b"\r\n", b"\x01\n"))
+    }),
+    ("a tab is a byte of a word", |text| {
+        pack(&replaced(text, b"\t", b"\x01"))
+    }),
+    ("a vertical tab parts words", |text| {
+        pack(&replaced(text, b"\x0b", b" "))
+    }),
+    ("a form feed parts words", |text| {
+        pack(&replaced(text, b"\x0c", b" "))
+    }),
+    ("a zero byte counts for nothing", |text| {
+        pack(&replaced(text, b"\0", b""))
+    }),
+    ("a byte order mark is let be", |text| {
+        pack(&replaced(text, b"\xef\xbb\xbf", b""))
+    }),
+    ("no comment right behind a word", |text| {
+        let mut text = text.to_vec();
+        for at in 1..text.len() {
+            if text[at] == b'#' && text[at - 1].is_ascii_digit() {
+                text[at] = b'x';
+            }
+        }
+        pack(&text)
+    }),
+    ("a last line without its end is left out", |text| {
+        let end = text.iter().rposition(|byte| *byte == b'\n');
+        pack(&text[..end.map_or(0, |end| end + 1)])
+    }),
+    ("no bytes are refused", |text| match text {
+        [] => Err(Refused::Line(1, 1)),
+        _ => pack(text),
+    }),
+    ("lines from 0", |text| {
+        pack(text).map_err(|refused| match refused {
+            Refused::Line(expected, line) => Refused::Line(expected, line - 1),
+            other => other,
+        })
+    }),
+    ("empty lines are not counted", |text| {
+        let lines = pack::lines(text);
+        let told: Vec<&[u8]> = lines
+            .into_iter()
+            .filter(|line| !pack::words(line).is_empty())
+            .collect();
+        match pack(text) {
+            Err(Refused::Line(..)) => pack(&told.join(&b'\n')),
+            other => other,
+        }
+    }),
+    ("the last bad line", |text| {
+        let lines = pack::lines(text);
+        let bad = (1..).zip(&lines).filter_map(|(number, line)| {
+            let words = pack::words(line);
+            let made = (!words.is_empty()).then(|| pack::record(&words));
+            Some(Refused::Line(made?.err()?, number))
+        });
+        match (pack(text), bad.last()) {
+            (Err(Refused::Line(..)), Some(last)) => Err(last),
+            (other, _) => other,
+        }
+    }),
+    ("a bad line of the wrong kind is left out", |text| {
+        packed_by(text, |words| match pack::record(words) {
+            Err(1) => Ok([0; 16]),
+            other => other,
+        })
+    }),
+    ("the count before the kind", |text| {
+        packed_by(text, |words| match pack::record(words) {
+            Err(1) if words.len() > 5 => Err(2),
+            other => other,
+        })
+    }),
+    ("words before their count", |text| {
+        packed_by(text, |words| match (pack::record(words), words) {
+            (Err(2), [kind, b"x", ..]) if *kind != b"event" => Err(3),
+            (other, _) => other,
+        })
+    }),
+    ("more words are let be", |text| {
+        packed_by(text, |words| match words {
+            [b"mark", ..] => pack::record(&words[..1]),
+            _ => pack::record(words),
+        })
+    }),
+    ("words from right to left", |text| {
+        packed_by(text, |words| match (pack::record(words), words) {
+            (Err(5 | 6), [b"event", _, _, b"x"]) => Err(7),
+            (Err(3), [b"ordinary", _, b"x", _]) => Err(4),
+            (Err(3), [b"wait", _, _, b"x"]) => Err(4),
+            (Err(3), [b"link", _, b"x", _, _]) => Err(4),
+            (Err(4), [b"link", _, _, _, b"x"]) => Err(3),
+            (other, _) => other,
+        })
+    }),
+    ("a plus is let be", |text| {
+        packed_by(text, |words| {
+            with_words(words, |word| {
+                word.strip_prefix(b"+").unwrap_or(word).to_vec()
+            })
+        })
+    }),
+    ("-0 is refused", |text| {
+        packed_by(text, |words| {
+            with_words(words, |word| match word {
+                b"-0" => b"-".to_vec(),
+                _ => word.to_vec(),
+            })
+        })
+    }),
+    ("-1 is 0 where there is no minus", |text| {
+        packed_by(text, |words| {
+            pack::record(words).or_else(|_| {
+                with_words(words, |word| match word {
+                    b"-1" => b"0".to_vec(),
+                    _ => word.to_vec(),
+                })
+            })
+        })
+    }),
+    ("many zeros are refused", |text| {
+        packed_by(text, |words| {
+            with_words(words, |word| {
+                match word.len() > 19 && !word.contains(&b',') {
+                    true => b"x".to_vec(),
+                    false => word.to_vec(),
+                }
+            })
+        })
+    }),
+    ("points wrap", |text| {
+        packed_by(text, |words| {
+            with_words(words, |word| match without_zeros(word) {
+                b"256" => b"0".to_vec(),
+                _ => word.to_vec(),
+            })
+        })
+    }),
+    ("numbers wrap", |text| {
+        packed_by(text, |words| {
+            with_words(words, |word| match without_zeros(word) {
+                b"4294967296" => b"0".to_vec(),
+                _ => word.to_vec(),
+            })
+        })
+    }),
+    ("signed numbers wrap", |text| {
+        packed_by(text, |words| {
+            with_words(words, |word| match word {
+                b"-2147483649" => b"2147483647".to_vec(),
+                _ => word.to_vec(),
+            })
+        })
+    }),
+    ("the least signed number is refused", |text| {
+        packed_by(text, |words| {
+            with_words(words, |word| match word {
+                b"-2147483648" => b"-2147483649".to_vec(),
+                _ => word.to_vec(),
+            })
+        })
+    }),
+    ("an event of point 255", |text| {
+        packed_by(text, |words| match (pack::record(words), words) {
+            (Err(6), [kind, minute, point, set]) if without_zeros(point) == b"255" => {
+                pack::record(&[kind, minute, b"none", set])
+            }
+            (other, _) => other,
+        })
+    }),
+    ("point 32 of a set is point 0", |text| {
+        packed_by(text, |words| match (pack::record(words), words) {
+            (Err(7), [kind, minute, point, set]) if set.ends_with(b"32") => {
+                pack::record(&[kind, minute, point, &replaced(set, b"32", b"0")])
+            }
+            (other, _) => other,
+        })
+    }),
+    ("a comma at the end of a set", |text| {
+        packed_by(text, |words| match (pack::record(words), words) {
+            (Err(7), [kind, minute, point, set]) => {
+                let set = set.strip_suffix(b",").unwrap_or(set);
+                pack::record(&[kind, minute, point, set])
+            }
+            (other, _) => other,
+        })
+    }),
+    ("two numbers of a link change places", |text| {
+        packed_by(text, |words| {
+            let mut record = pack::record(words)?;
+            if words[0] == b"link" {
+                record[4..12].rotate_left(4);
+            }
+            Ok(record)
+        })
+    }),
+    ("one byte more", |text| match text.len() {
+        length if length == pack::LONGEST + 1 => pack(&text[..pack::LONGEST]),
+        _ => pack(text),
+    }),
+    ("one record less", |text| match pack(text) {
+        Ok(bytes) if bytes.len() == 16 * pack::MOST => Err(Refused::TooMuch),
+        other => other,
+    }),
+    ("too many records before a bad line", |text| {
+        let lines = text.iter().filter(|byte| **byte == b'\n').count();
+        match pack(text) {
+            Err(_) if lines > pack::MOST => Err(Refused::TooMuch),
+            other => other,
+        }
+    }),
+];
+
+#[test]
+fn wrong_packs_are_found() {
+    for (what, packer) in PACKERS {
+        found("pack", what, &|ask| {
+            of_verb("pack", ask, |listing| match packer(listing) {
+                Err(Refused::Line(expected, line)) => {
+                    let expected = pack::EXPECTED[expected - 1];
+                    file(Err(format!("pack: expected {expected}, at line {line}")))
+                }
+                Err(Refused::TooMuch) => Said {
+                    status: 2,
+                    ..file(Err(pack::TOO_MUCH.to_string()))
+                },
+                Ok(bytes) => file(Ok(bytes)),
+            })
+        });
+    }
+    found("pack", "good lines are written before a bad one", &|ask| {
+        let mut said = right(ask);
+        if said.status == 1 {
+            let lines = pack::lines(&ask.input);
+            let good = (1..lines.len()).rev();
+            let mut good = good.filter_map(|count| pack(&lines[..count].join(&b'\n')).ok());
+            said.output = good.next().unwrap_or_default();
+        }
+        said
+    });
+    found(
+        "pack",
+        "too much is said as other wrong usage is",
+        &|ask| match right(ask) {
+            said if said.status == 2 => wrong_usage(),
+            said => said,
+        },
+    );
+    found("pack", "too much is said with status 1", &|ask| {
+        let mut said = right(ask);
+        if said.errors.starts_with(b"usage: a listing") {
+            said.status = 1;
+        }
+        said
+    });
 }
 
 /// The finishing minutes of all projections, of those that `counts` lets count.
@@ -835,7 +1634,7 @@ fn wrong_readers_and_outputs_are_found() {
             input[..mark.map_or(input.len(), |mark| 16 * mark)].to_vec()
         }),
     ];
-    let verbs = ["test", "worst", "day", "close"];
+    let verbs = ["test", "worst", "day", "close", "lighter"];
     for verb in verbs {
         for (what, changed) in inputs {
             found(verb, what, &|ask| {
@@ -911,14 +1710,17 @@ fn wrong_readers_and_outputs_are_found() {
             said.output.pop();
             said
         });
+        let numbers = match verb {
+            "day" => 1,
+            "calendar" => 5,
+            _ => 0,
+        };
         found(
             verb,
             "too many words are let be",
             &|ask| match &ask.words[..] {
-                [first, rest @ ..]
-                    if first == verb && rest.len() > 1 - usize::from(verb != "day") =>
-                {
-                    let wanted = 1 + usize::from(verb == "day");
+                [first, rest @ ..] if first == verb && rest.len() > numbers => {
+                    let wanted = 1 + numbers;
                     let words: Vec<&str> = ask.words[..wanted].iter().map(String::as_str).collect();
                     Verb::of(&words).map_or_else(wrong_usage, |verb| verb.said(&ask.input))
                 }

@@ -11,6 +11,8 @@ pub struct Board {
     pub clock: u32,
     pub done: u32,
     pub minutes: [u32; PLACES],
+    /// For each done point the number of the event that did it, from 1 (document 02); else 0.
+    pub numbers: [u32; PLACES],
 }
 
 impl Board {
@@ -20,6 +22,7 @@ impl Board {
             clock: 0,
             done: 0,
             minutes: [0; PLACES],
+            numbers: [0; PLACES],
         }
     }
 
@@ -51,41 +54,114 @@ pub fn is_running(board: &Board, link: &Link) -> bool {
     board.is_done(link.a) && !board.is_done(link.c)
 }
 
+/// A sentence of what it is for a board to be sound, in the documents' order.
+#[derive(Clone, Copy, PartialEq, Eq, PartialOrd, Ord, Debug)]
+pub enum Clause {
+    /// Done points are in the plan.
+    InPlan,
+    /// A point not done holds the minute 0.
+    NoMinute,
+    /// Minutes are between 0 and the clock.
+    UpToClock,
+    /// The clock is the largest done minute, or 0 with none done.
+    Clock,
+    /// A done watched point has its A done.
+    Started,
+    /// A done watched point whose A is done has its duration in bounds.
+    Duration,
+    /// A running link has A + y ≥ clock.
+    Running,
+    /// Clock ≤ 100,000 × the number of done points.
+    Farthest,
+    /// A point not done holds the event number 0.
+    NoNumber,
+    /// A done point holds an event number from 1.
+    Number,
+    /// Event numbers have no gaps.
+    Gaps,
+    /// Minutes never fall as event numbers rise.
+    Falling,
+    /// The same minute for the same number.
+    OneMinute,
+    /// At most one foreman's point for each number.
+    OneForeman,
+    /// A link's start in an earlier event than its end, where both are done.
+    Earlier,
+}
+
+pub const CLAUSES: [Clause; 15] = [
+    Clause::InPlan,
+    Clause::NoMinute,
+    Clause::UpToClock,
+    Clause::Clock,
+    Clause::Started,
+    Clause::Duration,
+    Clause::Running,
+    Clause::Farthest,
+    Clause::NoNumber,
+    Clause::Number,
+    Clause::Gaps,
+    Clause::Falling,
+    Clause::OneMinute,
+    Clause::OneForeman,
+    Clause::Earlier,
+];
+
+/// Is that sentence true of the board?
+pub fn keeps(plan: &Plan, board: &Board, clause: Clause) -> bool {
+    let done: Vec<usize> = (0..PLACES).filter(|&point| board.is_done(point)).collect();
+    let pairs = || done.iter().flat_map(|&p| done.iter().map(move |&q| (p, q)));
+    let number = |point: usize| board.numbers[point];
+    let links = || plan.links.iter();
+    match clause {
+        Clause::InPlan => done.iter().all(|&point| point < plan.points()),
+        Clause::NoMinute => {
+            (0..PLACES).all(|point| board.is_done(point) || board.minute(point) == 0)
+        }
+        Clause::UpToClock => (0..PLACES).all(|point| board.minute(point) <= board.clock()),
+        Clause::Clock => {
+            let largest = done.iter().map(|&point| board.minute(point)).max();
+            board.clock() == largest.unwrap_or(0)
+        }
+        Clause::Started => links().all(|link| !board.is_done(link.c) || board.is_done(link.a)),
+        Clause::Duration => links().all(|link| {
+            let both = board.is_done(link.a) && board.is_done(link.c);
+            let duration = board.minute(link.c) - board.minute(link.a);
+            !both || (link.x..=link.y).contains(&duration)
+        }),
+        Clause::Running => links()
+            .all(|link| !is_running(board, link) || board.minute(link.a) + link.y >= board.clock()),
+        Clause::Farthest => board.clock() <= BOUND * i64::from(board.count()),
+        Clause::NoNumber => (0..PLACES).all(|point| board.is_done(point) || number(point) == 0),
+        Clause::Number => done.iter().all(|&point| number(point) >= 1),
+        // The one before each is some point's, down to 1.
+        Clause::Gaps => done.iter().all(|&point| {
+            number(point) <= 1 || done.iter().any(|&other| number(other) == number(point) - 1)
+        }),
+        Clause::Falling => {
+            pairs().all(|(p, q)| number(p) >= number(q) || board.minute(p) <= board.minute(q))
+        }
+        Clause::OneMinute => {
+            pairs().all(|(p, q)| number(p) != number(q) || board.minute(p) == board.minute(q))
+        }
+        Clause::OneForeman => pairs()
+            .all(|(p, q)| p == q || number(p) != number(q) || plan.watched(p) || plan.watched(q)),
+        Clause::Earlier => links().all(|link| {
+            let both = board.is_done(link.a) && board.is_done(link.c);
+            !both || number(link.a) < number(link.c)
+        }),
+    }
+}
+
+/// The sentences that are not true of the board.
+pub fn broken(plan: &Plan, board: &Board) -> Vec<Clause> {
+    let all = CLAUSES.into_iter();
+    all.filter(|&clause| !keeps(plan, board, clause)).collect()
+}
+
 /// Is the board sound for the plan?
 pub fn sound(plan: &Plan, board: &Board) -> bool {
-    // Done points are in the plan.
-    if (plan.points()..PLACES).any(|point| board.is_done(point)) {
-        return false;
-    }
-    // A point not done holds 0.
-    if (0..PLACES).any(|point| !board.is_done(point) && board.minute(point) != 0) {
-        return false;
-    }
-    // Minutes are between 0 and the clock.
-    if (0..PLACES).any(|point| board.minute(point) > board.clock()) {
-        return false;
-    }
-    // The clock is the largest done minute, or 0 with none done.
-    let done = (0..PLACES).filter(|&point| board.is_done(point));
-    let largest = done.map(|point| board.minute(point)).max();
-    if board.clock() != largest.unwrap_or(0) {
-        return false;
-    }
-    // A done watched point has its A done and its duration in bounds.
-    for link in plan.links.iter().filter(|link| board.is_done(link.c)) {
-        let duration = board.minute(link.c) - board.minute(link.a);
-        if !board.is_done(link.a) || !(link.x..=link.y).contains(&duration) {
-            return false;
-        }
-    }
-    // A running link has A + y ≥ clock.
-    for link in plan.links.iter().filter(|link| is_running(board, link)) {
-        if board.minute(link.a) + link.y < board.clock() {
-            return false;
-        }
-    }
-    // Clock ≤ 100,000 × the number of done points.
-    board.clock() <= BOUND * i64::from(board.count())
+    CLAUSES.into_iter().all(|clause| keeps(plan, board, clause))
 }
 
 /// Open: a foreman's point not yet done; every ordinary record from it with negative d points to

@@ -1,10 +1,14 @@
 //! The program `desk`: a verb and its words, standard input to standard output.
 
+use crate::calendar::{self, Origin};
 use crate::close;
 use crate::import;
+use crate::lighter::{self, Lighter};
+use crate::pack::{self, Refused};
 use crate::plan::{self, Plan};
 use crate::text::{self, MARK};
 use crate::worst::{self, Worst};
+use crate::Refusal;
 
 /// What was said on standard output and on standard error, and how it ended: 0, 1 for a refusal, 2 for wrong usage.
 #[derive(Clone, PartialEq, Eq, Debug)]
@@ -22,10 +26,14 @@ pub enum Verb {
     Day(u32),
     Import,
     Close,
+    Calendar(Origin),
+    Lighter,
+    Pack,
 }
 
 /// The line about wrong usage.
-const USAGE: &str = "usage: oracle-desk test | worst | day PROJECTION | import | close";
+const USAGE: &str = "usage: oracle-desk test | worst | day PROJECTION | import | close | \
+                     calendar YEAR MONTH DAY HOUR MINUTE | lighter | pack";
 
 impl Verb {
     /// None where there is no such verb, or the words are not its words.
@@ -36,6 +44,13 @@ impl Verb {
             ["day", projection] => number(projection).map(Verb::Day),
             ["import"] => Some(Verb::Import),
             ["close"] => Some(Verb::Close),
+            ["calendar", origin @ ..] => {
+                let numbers: Option<Vec<u32>> = origin.iter().map(|word| number(word)).collect();
+                let numbers: [u32; 5] = numbers?.try_into().ok()?;
+                Some(Verb::Calendar(Origin::of(numbers)))
+            }
+            ["lighter"] => Some(Verb::Lighter),
+            ["pack"] => Some(Verb::Pack),
             _ => None,
         }
     }
@@ -48,6 +63,9 @@ impl Verb {
             Verb::Day(projection) => file(day(input, projection)),
             Verb::Import => file(import(input)),
             Verb::Close => file(close(input)),
+            Verb::Calendar(origin) => file(calendar(input, &origin)),
+            Verb::Lighter => lighter(input),
+            Verb::Pack => pack(input),
         }
     }
 }
@@ -98,9 +116,13 @@ fn file(answer: Result<Vec<u8>, String>) -> Said {
     }
 }
 
+fn bad_plan((number, record): Refusal) -> String {
+    format!("plan {number} {record}")
+}
+
 /// The plan of a file that is nothing more, or how its refusal is said.
 fn plan(file: &[u8]) -> Result<Plan, String> {
-    plan::read(file).map_err(|(number, record)| format!("plan {number} {record}"))
+    plan::read(file).map_err(bad_plan)
 }
 
 fn test(file: &[u8]) -> Result<String, String> {
@@ -133,4 +155,48 @@ fn close(file: &[u8]) -> Result<Vec<u8>, String> {
     let made = close::close(&plan(file)?);
     let made = made.map_err(|number| format!("close {number}"))?;
     Ok(made.to_bytes())
+}
+
+/// The calendar of the board after all events of what `sheet` reads.
+fn calendar(input: &[u8], origin: &Origin) -> Result<Vec<u8>, String> {
+    let after = text::board_after(input).expect("bytes can be read");
+    let (plan, board) = after.map_err(bad_plan)?;
+    let text = calendar::calendar(&plan, &board, origin);
+    let text = text.map_err(|number| format!("calendar {number}"))?;
+    Ok(text.into_bytes())
+}
+
+/// The file of the lighter plan, and on standard error a line for each record that went.
+fn lighter(file_in: &[u8]) -> Said {
+    let light = plan(file_in)
+        .and_then(|plan| lighter::lighter(&plan).map_err(|number| format!("lighter {number}")));
+    match light {
+        Ok(Lighter { plan, dropped }) => Said {
+            output: plan.to_bytes(),
+            errors: dropped
+                .iter()
+                .flat_map(|number| line(&format!("dropped {number}")))
+                .collect(),
+            status: 0,
+        },
+        Err(text) => file(Err(text)),
+    }
+}
+
+/// The bytes of a listing, or a line about what was expected. That it is too much is wrong usage.
+fn pack(listing: &[u8]) -> Said {
+    let line_of = |refused| match refused {
+        Refused::Line(expected, number) => {
+            let expected = pack::EXPECTED[expected - 1];
+            (1, format!("pack: expected {expected}, at line {number}"))
+        }
+        Refused::TooMuch => (2, pack::TOO_MUCH.to_string()),
+    };
+    match pack::pack(listing).map_err(line_of) {
+        Ok(output) => file(Ok(output)),
+        Err((status, text)) => Said {
+            status,
+            ..file(Err(text))
+        },
+    }
 }

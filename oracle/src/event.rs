@@ -106,13 +106,16 @@ fn judge_event(plan: &Plan, before: &Board, bytes: &[u8]) -> Result<Event, u32> 
     Ok(event)
 }
 
-/// Marks all points of the event done at its minute, which becomes the clock.
+/// Marks all points of the event done at its minute, which becomes the clock. Its number is one more than the largest on the
+/// board.
 fn mark(before: &Board, event: &Event) -> Board {
     let mut after = *before;
     after.clock = event.minute;
+    let largest = before.numbers.iter().max().unwrap_or(&0);
     for &point in event.foreman.iter().chain(&event.set) {
         after.done |= 1 << point;
         after.minutes[point] = event.minute;
+        after.numbers[point] = largest + 1;
     }
     after
 }

@@ -3,10 +3,13 @@
 
 pub mod board;
 pub mod by_value;
+pub mod calendar;
 pub mod close;
 pub mod desk;
 pub mod event;
 pub mod import;
+pub mod lighter;
+pub mod pack;
 pub mod plan;
 pub mod plan_test;
 pub mod probe;

@@ -58,10 +58,11 @@ fn mixed(sum: u32, x: u32) -> u32 {
     ((u64::from(sum) % PRIME * 251 + u64::from(x) + 1) % PRIME) as u32
 }
 
-/// A board's lines.
+/// A board's lines: clock and set, the minutes, the event numbers.
 fn board_lines(asked: u32, board: &Board) -> Vec<Line> {
     let mut lines = vec![[asked, board.clock, board.done, 0]];
-    for four in board.minutes.chunks_exact(4) {
+    let numbers = board.numbers.chunks_exact(4);
+    for four in board.minutes.chunks_exact(4).chain(numbers) {
         lines.push([four[0], four[1], four[2], four[3]]);
     }
     lines
@@ -123,6 +124,7 @@ impl Desk {
                 self.put(f.wrapping_add(4), t);
             }
             7 => self.repeats = f,
+            8 => self.board.numbers[usize::from(p) % PLACES] = f,
             16 => return self.reply(),
             17 => return self.take(),
             18 => return vec![self.verdict()],

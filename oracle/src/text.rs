@@ -5,6 +5,7 @@ use crate::event;
 use crate::plan::{self, Plan, RECORD, ROOM};
 use crate::plan_test::{self, Answer};
 use crate::verdict::{self, Verdict};
+use crate::Refusal;
 use std::io::{self, ErrorKind, Read, Write};
 
 /// The record that ends the plan part.
@@ -53,6 +54,23 @@ pub fn sheet(input: &mut impl Read, output: &mut impl Write) -> io::Result<()> {
 /// The same input, with the plan test and every reply printed.
 pub fn offers(input: &mut impl Read, output: &mut impl Write) -> io::Result<()> {
     run(input, output, true)
+}
+
+/// The plan and the board after all events of such an input, refused ones and an unfinished last record left aside; or the
+/// plan's refusal.
+pub fn board_after(mut input: &[u8]) -> io::Result<Result<(Plan, Board), Refusal>> {
+    let plan = match plan::read(&plan_part(&mut input)?) {
+        Ok(plan) => plan,
+        Err(refusal) => return Ok(Err(refusal)),
+    };
+    let mut board = Board::fresh();
+    loop {
+        let record = next_record(&mut input)?;
+        if record.len() < RECORD {
+            return Ok(Ok((plan, board)));
+        }
+        board = event::take(&plan, &board, &record).1;
+    }
 }
 
 fn run(input: &mut impl Read, output: &mut impl Write, full: bool) -> io::Result<()> {

@@ -47,12 +47,11 @@ pub fn run(plan: &Plan, durations: &[i64]) -> Option<Run> {
         let set = set.fold(0, |set, &(_, c)| set | 1 << c);
         run.events.push(record(minute, foreman, set));
         at.clock = minute as u32;
-        at.done |= set | foreman.map_or(0, |point| 1 << point);
-        for &(_, c) in falls.iter().filter(|(falls_at, _)| *falls_at == minute) {
-            at.minutes[c] = at.clock;
-        }
-        if let Some(point) = foreman {
+        let now = falls.iter().filter(|(falls_at, _)| *falls_at == minute);
+        for point in now.map(|&(_, c)| c).chain(foreman) {
+            at.done |= 1 << point;
             at.minutes[point] = at.clock;
+            at.numbers[point] = run.events.len() as u32;
         }
     }
     Some(run)

@@ -3,6 +3,7 @@
 mod common;
 
 use common::*;
+use oracle::calendar::Origin;
 use oracle::desk::Verb;
 use std::io::Write;
 use std::process::{Command, Stdio};
@@ -57,7 +58,12 @@ fn words() {
     }
     assert_eq!(of(&["import"]), Some(Verb::Import));
     assert_eq!(of(&["close"]), Some(Verb::Close));
-    let none: [&[&str]; 24] = [
+    let origin = ["calendar", "2024", "02", "029", "0", "4294967295"];
+    let numbers = Origin::of([2024, 2, 29, 0, u32::MAX]);
+    assert_eq!(of(&origin), Some(Verb::Calendar(numbers)));
+    assert_eq!(of(&["lighter"]), Some(Verb::Lighter));
+    assert_eq!(of(&["pack"]), Some(Verb::Pack));
+    let none: [&[&str]; 34] = [
         &[],
         &[""],
         &["Test"],
@@ -82,13 +88,26 @@ fn words() {
         &["day", "0x1"],
         &["day", "1", "1"],
         &["day", "\u{0661}"],
+        &["lighter", "0"],
+        &["Lighter"],
+        &["pack", "plan.list"],
+        &["packs"],
+        &["calendar"],
+        &["calendar", "2024", "1", "1", "0"],
+        &["calendar", "2024", "1", "1", "0", "0", "0"],
+        &["calendar", "2024", "1", "1", "0", "4294967296"],
+        &["calendar", "2024", "-1", "1", "0", "0"],
+        &["calendar", "2024", "", "1", "0", "0"],
     ];
     let file = haul().to_bytes();
     for words in none {
         assert_eq!(of(words), None);
         let (errors, status) = refused(words, &file);
         assert_eq!((errors.lines().count(), status), (1, 2), "{words:?}");
-        for verb in ["test", "worst", "day", "import", "close"] {
+        let verbs = [
+            "test", "worst", "day", "import", "close", "calendar", "lighter", "pack",
+        ];
+        for verb in verbs {
             assert!(errors.contains(verb) && errors.ends_with('\n'));
         }
     }
@@ -175,4 +194,87 @@ fn the_made_plan() {
     let far = file(&[ordinary(0, 100_000, 1), ordinary(1, 1, 2)]);
     assert_eq!(close(&far), said("close 63\n", 1));
     assert_eq!(close(&far[16..]), said("plan 8 0\n", 1));
+}
+
+#[test]
+fn the_calendar() {
+    let words = ["calendar", "2024", "2", "29", "23", "59"];
+    let sheet = |events: &[u8]| [&haul().to_bytes()[..], &[255; 16], events].concat();
+    let day = [event(0, 0, &[]), event(12, 1, &[]), event(47, 3, &[2])];
+    let (text, errors, status) = desk(&words, &sheet(&day.concat()));
+    assert_eq!((&errors[..], status), ("", 0));
+    let text = String::from_utf8(text).unwrap();
+    assert!(text.starts_with("BEGIN:VCALENDAR\r\nVERSION:2.0\r\nPRODID:-//Ponds//Sheets//EN\r\n"));
+    assert!(text.contains("\r\nUID:3-20240301T004600Z\r\nDTSTAMP:20240301T004600Z\r\n"));
+    // Refused events and an unfinished last record are left aside.
+    let refused_too = [&day.concat()[..], &[255; 16], &day[0], &day[1][..15]].concat();
+    assert_eq!(desk(&words, &sheet(&refused_too)).0, text.as_bytes());
+    let calendar = |words: &[&str], input: &[u8]| refused(words, input);
+    assert_eq!(
+        calendar(&words, &sheet(&day[..2].concat())),
+        said("calendar 31\n", 1)
+    );
+    // Without the mark there are no events.
+    assert_eq!(
+        calendar(&words, &haul().to_bytes()),
+        said("calendar 31\n", 1)
+    );
+    let none = ["calendar", "2023", "2", "29", "23", "59"];
+    assert_eq!(
+        calendar(&none, &sheet(&day.concat())),
+        said("calendar 51\n", 1)
+    );
+    assert_eq!(calendar(&none, &sheet(&[])), said("calendar 31\n", 1));
+    assert_eq!(calendar(&none, &[255; 32]), said("plan 1 0\n", 1));
+    assert_eq!(
+        calendar(&none, &haul().to_bytes()[1..]),
+        said("plan 2 0\n", 1)
+    );
+}
+
+#[test]
+fn the_lighter_plan() {
+    // Record 5 says no more than 3 and 4 together, but goes last: 3 and 4 are needed before it.
+    let file = |rest: &[_]| bytes(&records(3, rest));
+    let heavy = file(&[ordinary(1, -4, 0), ordinary(2, -3, 1), ordinary(2, -7, 0)]);
+    let light = file(&[ordinary(1, -4, 0), ordinary(2, -3, 1)]);
+    let (output, errors, status) = desk(&["lighter"], &heavy);
+    assert_eq!(
+        (output, &errors[..], status),
+        (light.clone(), "dropped 5\n", 0)
+    );
+    // Nothing more goes, and nothing is said.
+    assert_eq!(desk(&["lighter"], &light), (light, String::new(), 0));
+    let loose = file(&[ordinary(2, -6, 0), ordinary(2, -7, 1), ordinary(1, 0, 0)]);
+    let left = file(&[ordinary(2, -7, 1), ordinary(1, 0, 0)]);
+    assert_eq!(
+        desk(&["lighter"], &loose),
+        (left, "dropped 3\n".to_string(), 0)
+    );
+    let lighter = |input: &[u8]| refused(&["lighter"], input);
+    let unwaited = haul_with(&[]).to_bytes();
+    assert_eq!(lighter(&unwaited), said("lighter 60\n", 1));
+    let wide = plan(2, &[link(0, 1, 4_097, 1), ordinary(0, 0, 1)]).to_bytes();
+    assert_eq!(lighter(&wide), said("lighter 13\n", 1));
+    assert_eq!(lighter(&unwaited[16..]), said("plan 8 0\n", 1));
+}
+
+#[test]
+fn the_packed_listing() {
+    let pack = |listing: &[u8]| desk(&["pack"], listing);
+    assert_eq!(pack(b""), (vec![], String::new(), 0));
+    let listing = b"point 0 7 # the pond\r\n\tordinary 1 -5  0\nmark";
+    let mut packed = bytes(&[ordinary(1, -5, 0)]);
+    packed.splice(..0, [1, 0, 0, 0, 0, 0, 0, 0, 0, 0, 0, 0, 7, 0, 0, 0]);
+    packed.extend([255; 16]);
+    assert_eq!(pack(listing), (packed, String::new(), 0));
+    let refused = |listing: &[u8]| refused(&["pack"], listing);
+    assert_eq!(
+        refused(b"mark\n\nevent 0 255 none\nmark 1\n"),
+        said("pack: expected none or a point, 0 to 254, at line 3\n", 1)
+    );
+    let usage =
+        "usage: a listing for pack has at most 262144 bytes and makes at most 16384 records.\n";
+    assert_eq!(refused(&b"mark\n".repeat(16_385)), said(usage, 2));
+    assert_eq!(refused(&[b'x'; 262_145]), said(usage, 2));
 }

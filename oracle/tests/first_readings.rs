@@ -34,7 +34,7 @@ fn the_bound_of_27_is_strict() {
     assert_eq!(number(&plan, &now, &event(6, 2, &[])), 27);
     let now = after(&plan, &now, &[event(5, 2, &[])]);
     let now = after(&plan, &now, &[event(5, NONE, &[1])]);
-    assert_eq!(now, board(&[(0, 0), (1, 5), (2, 5)]));
+    assert_eq!(now, board(&[(0, 0), (2, 5), (1, 5)]));
 }
 
 #[test]

@@ -13,6 +13,10 @@ fn board(done: u32, last: u32) -> Board {
     board.minutes[1] = 12;
     board.minutes[2] = 47;
     board.minutes[3] = last;
+    // Points 2 and 3 at one minute are one event, or would be.
+    for (point, number) in [1, 2, 3, 3].into_iter().enumerate() {
+        board.numbers[point] = if board.is_done(point) { number } else { 0 };
+    }
     board
 }
 

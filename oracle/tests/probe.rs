@@ -45,13 +45,26 @@ fn the_haul() {
 fn boards_of_any_content() {
     let board = |clock, done, minute| {
         let set = request(3, [0; 3], [clock, done, 0]);
-        [set, request(4, [0; 3], [minute, 0, 0])].concat()
+        let number = request(8, [32, 0, 0], [done, 0, 0]);
+        [set, request(4, [0; 3], [minute, 0, 0]), number].concat()
     };
     // Point 0 done at minute 7; the same with another clock; point 0 not done, but with a minute.
     for (clock, done, minute, number) in [(7, 1, 7, 31), (8, 1, 7, 20), (7, 0, 7, 20)] {
         let lines = answers(&[haul_on_the_desk(), board(clock, done, minute), call(18)]);
         assert_eq!(lines, [format!("18 {number} 0 0")]);
     }
+    // Another event number is not sound; the board handed back has it all the same.
+    let numbered = request(8, [0; 3], [2, 0, 0]);
+    let lines = answers(&[haul_on_the_desk(), board(7, 1, 7), numbered, call(17)]);
+    assert_eq!(
+        lines[..3],
+        [
+            "17 20 0 0".to_string(),
+            "17 7 1 0".to_string(),
+            "7 0 0 0".to_string()
+        ]
+    );
+    assert_eq!((&lines[10][..], lines.len()), ("2 0 0 0", 2 + 8 + 8));
 }
 
 #[test]
@@ -80,6 +93,7 @@ fn finished_haul() -> Vec<u8> {
     bytes.extend(request(3, [0; 3], [43, 15, 0]));
     for (point, minute) in [(0, 0), (1, 12), (2, 40), (3, 43)] {
         bytes.extend(request(4, [point, 0, 0], [minute, 0, 0]));
+        bytes.extend(request(8, [point, 0, 0], [u32::from(point) + 1, 0, 0]));
     }
     bytes
 }
@@ -137,7 +151,7 @@ fn a_stream() {
             "0 12 0 0".into()
         ]
     );
-    assert_eq!(lines.len(), 10);
+    assert_eq!((&lines[10][..], lines.len()), ("1 2 0 0", 2 + 8 + 8));
     // Two events, since there is no room for a third, or no third one.
     let lines = streamed(48, 8);
     let short = sum(&[0, 0, 1, 29, 0, 1, 7, 7]);

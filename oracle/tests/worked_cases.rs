@@ -78,7 +78,9 @@ fn case_8_with_the_set() {
     let now = hauling(&plan);
     assert_eq!(number(&plan, &now, &event(45, 3, &[2])), 29);
     let last = after(&plan, &now, &[event(47, 3, &[2])]);
-    assert_eq!(last, board(&[(0, 0), (1, 12), (2, 47), (3, 47)]));
+    // Points 2 and 3 are of one event.
+    let done = board(&[(0, 0), (1, 12), (2, 47), (3, 47)]);
+    assert_eq!(last, numbered(done, &[1, 2, 3, 3]));
     assert_eq!(reply(&plan, &last).unwrap().outcome, Outcome::Finished);
 }
 

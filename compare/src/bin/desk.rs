@@ -129,7 +129,8 @@ fn tell(both: &Both, seed: u64, found: &Found) -> io::Result<()> {
     );
     let differ = |way: Way, input: &[u8]| {
         let (ours, theirs) = both.run(0, &ask.words, input, way)?;
-        Ok(desk::differ(&both.verbs, &ours, &theirs))
+        let fault = desk::fault(&ask.words, input, &ours);
+        Ok(fault.is_some() || desk::differ(&both.verbs, &ours, &theirs))
     };
     // Read from a file is the simplest way to see it again.
     let way = if differ(Way::File, &ask.input)? {
@@ -139,7 +140,8 @@ fn tell(both: &Both, seed: u64, found: &Found) -> io::Result<()> {
         *way
     };
     let still = |input: &[u8]| differ(way, input);
-    let small = if ask.words.first().is_some_and(|verb| verb == "import") {
+    let verb = ask.words.first().map_or("", String::as_str);
+    let small = if ["import", "pack"].contains(&verb) {
         smaller::smaller_text(&still, &ask.input)?
     } else {
         smaller::smaller(&still, &ask.input)?
@@ -151,6 +153,9 @@ fn tell(both: &Both, seed: u64, found: &Found) -> io::Result<()> {
         small.len()
     );
     let (ours, theirs) = both.run(0, &ask.words, &small, way)?;
+    if let Some(fault) = desk::fault(&ask.words, &small, &ours) {
+        println!("what ours says is wrong by itself: {fault}");
+    }
     show("ours", &ours);
     show("the independent program", &theirs);
     let quoted: Vec<String> = ask.words.iter().map(|word| format!("'{word}'")).collect();

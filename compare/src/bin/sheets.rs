@@ -10,6 +10,7 @@ use compare::printed::{self, Place, Reply};
 use compare::programs::{self, Both, Way};
 use compare::requests::{Requests, STREAM, VERDICT};
 use compare::sheets::{self, Due, Event, Order, Sheet, EXPECTED};
+use oracle::board::Board;
 use oracle::plan::{Plan, RECORD};
 use std::io;
 use std::path::PathBuf;
@@ -246,7 +247,7 @@ impl Worker<'_> {
                 .collect::<Vec<_>>();
             let events = sheets::events(draw, &plan, &minutes, Order::Apart);
             requests.put(&bytes(&events), 0);
-            stream(&mut requests, &plan, &events);
+            stream(&mut requests, &events);
             let good = sheets::faults(&plan, &minutes).is_empty();
             self.one(TRIED);
             if good {
@@ -329,7 +330,7 @@ fn finished(both: &Both, plan: &Plan, sheets: &[Sheet]) -> io::Result<Option<Wro
     for sheet in sheets {
         let events = bytes(&sheet.events);
         requests.buffer(&events, events.len(), 0);
-        stream(&mut requests, plan, &sheet.events);
+        stream(&mut requests, &sheet.events);
     }
     let wanted = sheets
         .iter()
@@ -338,8 +339,8 @@ fn finished(both: &Both, plan: &Plan, sheets: &[Sheet]) -> io::Result<Option<Wro
 }
 
 /// Asks for the events in the buffer as a stream from the fresh board, and for the verdict.
-fn stream(requests: &mut Requests, plan: &Plan, events: &[Event]) {
-    requests.board_of(0, 0, &vec![0; plan.points()]);
+fn stream(requests: &mut Requests, events: &[Event]) {
+    requests.board(&Board::fresh());
     requests.ask(STREAM, [0; 3], [3 * events.len() as u32, 0, 0]);
     requests.call(VERDICT);
 }
@@ -365,8 +366,8 @@ fn handed_back(
         .split_whitespace()
         .filter_map(|word| word.parse().ok())
         .collect();
-    // Of each stream: its answer, clock and set, 32 minutes, and the answer to the verdict.
-    let answers = numbers.chunks(4 + 4 + 32 + 4);
+    // Of each stream: its answer, clock and set, 32 minutes, 32 event numbers, and the answer to the verdict.
+    let answers = numbers.chunks(4 + 4 + 32 + 32 + 4);
     if answers.len() != wanted.len() {
         return Ok(wrong(
             both,
@@ -382,8 +383,8 @@ fn handed_back(
                 .zip(&answer[8..])
                 .all(|(minute, said)| *minute == i64::from(*said));
         let right = match *good {
-            true => answer[..2] == [24, 0] && as_drawn && answer[40..] == [18, 0, 0, 0],
-            false => answer[..2] == [24, 0] && answer[6] != all && answer[40..] == [18, 31, 0, 0],
+            true => answer[..2] == [24, 0] && as_drawn && answer[72..] == [18, 0, 0, 0],
+            false => answer[..2] == [24, 0] && answer[6] != all && answer[72..] == [18, 31, 0, 0],
         };
         if !right {
             let what = if *good { "good" } else { "not good" };

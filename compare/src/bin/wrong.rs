@@ -538,6 +538,43 @@ const ALL: &[Wrong] = &[
         "if (duration < l.x[c] ||",
         "if (duration + 1 < l.x[c] ||",
     ),
+    // document 02, §7
+    wrong(
+        "probe",
+        "a gap between event numbers",
+        "    if (seen != below(count)) return false;\n",
+        "",
+    ),
+    wrong(
+        "probe",
+        "two foreman's points of one event number",
+        "if (foremans & slot) return false;",
+        "",
+    ),
+    wrong(
+        "probe",
+        "two minutes for one event number",
+        "        if (seen & slot && noted[n - 1] != b->minutes[i]) return false;\n",
+        "",
+    ),
+    wrong(
+        "probe",
+        "minutes fall as event numbers rise",
+        "        if (noted[i] < noted[i - 1]) return false;",
+        "        if (noted[i] + 1 == 0) return false;",
+    ),
+    wrong(
+        "probe",
+        "a point that is not done has an event number",
+        "            if (n) return false;\n",
+        "",
+    ),
+    wrong(
+        "probe",
+        "an event is numbered by how many points are done",
+        "b->calls[__builtin_ctz(rest)] = call + 1;",
+        "b->calls[__builtin_ctz(rest)] = (call ? __builtin_popcount(b->done) : 1);",
+    ),
 ];
 
 fn main() -> ExitCode {

@@ -20,6 +20,18 @@ importWord = 0x74726f706d69
 abbrev pub closeWord : ℕ
 closeWord = 0x65736f6c63
 
+abbrev pub lighterWord : ℕ
+lighterWord = 0x7265746867696c
+
+abbrev pub droppedWord : ℕ
+droppedWord = 0x646570706f7264
+
+abbrev pub calendarWord : ℕ
+calendarWord = 0x7261646e656c6163
+
+abbrev pub lineWord : ℕ
+lineWord = 0x656e696c
+
 -- worst MINUTE PROJECTION, worst NUMBER
 abbrev pub worstLine : Worst → Line
 worstLine (At t i) = said (Name worstWord) (Number t ∷ Number i ∷ [])
@@ -36,3 +48,19 @@ importRefused n i = said (Name importWord) (Number n ∷ Number i ∷ [])
 -- close NUMBER
 abbrev pub closeRefused : ℕ → Line
 closeRefused n = said (Name closeWord) (Number n ∷ [])
+
+-- lighter NUMBER
+abbrev pub lighterRefused : ℕ → Line
+lighterRefused n = said (Name lighterWord) (Number n ∷ [])
+
+-- dropped N
+abbrev pub droppedLine : ℕ → Line
+droppedLine n = said (Name droppedWord) (Number n ∷ [])
+
+-- calendar NUMBER
+abbrev pub calendarRefused : ℕ → Line
+calendarRefused n = said (Name calendarWord) (Number n ∷ [])
+
+-- line N
+abbrev pub lineNumber : ℕ → Line
+lineNumber n = said (Name lineWord) (Number n ∷ [])

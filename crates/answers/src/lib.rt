@@ -1,6 +1,6 @@
 // The lines of the program `desk` that `text` does not have, proved from what they tell. An inner room of that program.
 ghost use mathlib.Core.Path.{_≡_};
-ghost use Rattle.answers.specs.Answers.{worstLine, dayRefused, importRefused, closeRefused};
+ghost use Rattle.answers.specs.Answers.{worstLine, dayRefused, importRefused, closeRefused, lighterRefused, droppedLine, calendarRefused, lineNumber};
 use lines::Line;
 use lines::number;
 use lines::numbers;
@@ -14,6 +14,14 @@ const DAY: u64 = 0x796164;
 const IMPORT: u64 = 0x74726f706d69;
 
 const CLOSE: u64 = 0x65736f6c63;
+
+const LIGHTER: u64 = 0x7265746867696c;
+
+const DROPPED: u64 = 0x646570706f7264;
+
+const CALENDAR: u64 = 0x7261646e656c6163;
+
+const LINE: u64 = 0x656e696c;
 
 // `worst MINUTE PROJECTION`, or `worst NUMBER` for a plan that has been read.
 pub fn worst_line(answer: Worst) -> Line
@@ -44,4 +52,32 @@ pub fn close_refused(n: u32) -> Line
     ensures { λ l. ⌜ l ≡ closeRefused n ⌝ }
 {
     number(CLOSE, n)
+}
+
+// `lighter NUMBER`: a plan that has been read and is not made lighter.
+pub fn lighter_refused(n: u32) -> Line
+    ensures { λ l. ⌜ l ≡ lighterRefused n ⌝ }
+{
+    number(LIGHTER, n)
+}
+
+// `dropped N`: the record N has gone.
+pub fn dropped_line(n: u32) -> Line
+    ensures { λ l. ⌜ l ≡ droppedLine n ⌝ }
+{
+    number(DROPPED, n)
+}
+
+// `calendar NUMBER`: a calendar that is refused, of a plan that has been read.
+pub fn calendar_refused(n: u32) -> Line
+    ensures { λ l. ⌜ l ≡ calendarRefused n ⌝ }
+{
+    number(CALENDAR, n)
+}
+
+// `line N`: which line of a listing was not as expected.
+pub fn line_number(n: u32) -> Line
+    ensures { λ l. ⌜ l ≡ lineNumber n ⌝ }
+{
+    number(LINE, n)
 }

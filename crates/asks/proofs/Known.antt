@@ -17,10 +17,11 @@ use Rattle.values.specs.declared.Seen.{Seen}
 use Rattle.values.proofs.Tests.{both}
 use Rattle.values.proofs.Words.{base, same-word}
 use Rattle.values.proofs.Tells.{Tells, tells-all}
-use Rattle.asks.specs.Asks.{testVerb, worstVerb, dayVerb, importVerb, closeVerb, isCount, alone, counted, askedOf}
-use Rattle.asks.specs.Inside.{isVerb, countIn, aloneIn, countedIn}
+use Rattle.asks.specs.Asks.{testVerb, worstVerb, dayVerb, importVerb, closeVerb, lighterVerb, packVerb, calendarVerb, isCount, alone, counted, dated, numberOf, askedOf}
+use Rattle.asks.specs.Inside.{isVerb, countIn, aloneIn, countedIn, datedIn, numberIn}
 use Rattle.asks.specs.declared.Asked.{Asked}
-use Rattle.asks.specs.declared.Asked.the-variants.{Test, Worst, Day, Import, Close, Nothing}
+use Rattle.asks.specs.declared.Asked.the-variants.{Test, Worst, Day, Import, Close, Lighter, Pack, Calendar, Nothing}
+use Rattle.asks.specs.declared.Number.{Number}
 
 -- a word that begins with a minus is not all digits
 no-minus : (g : List ℕ) → (allDigits (unsigned g) && not (isNegative g)) ≡ allDigits g
@@ -103,7 +104,26 @@ module _ (f : List ℕ) (a : All IsByte f) where
         verb worstVerb (omega arith, (omega arith, (omega arith, (omega arith, (omega arith, tt))))) (omega arith),
         verb importVerb (omega arith, (omega arith, (omega arith, (omega arith, (omega arith, (omega arith, tt)))))) (omega arith),
         verb closeVerb (omega arith, (omega arith, (omega arith, (omega arith, (omega arith, tt))))) (omega arith),
+        verb lighterVerb (omega arith, (omega arith, (omega arith, (omega arith, (omega arith, (omega arith, (omega arith, tt))))))) (omega arith),
+        verb packVerb (omega arith, (omega arith, (omega arith, (omega arith, tt)))) (omega arith),
       )
+
+  pub dated-known : datedIn known ≡ dated f
+  unfolding datedIn dated
+  dated-known =
+      rw (verb calendarVerb (omega arith, (omega arith, (omega arith, (omega arith, (omega arith, (omega arith, (omega arith, (omega arith, tt)))))))) (omega arith))
+
+  pub number-known : numberIn known ≡ numberOf f
+  unfolding numberIn numberOf
+  number-known = rw count (go (isCount f) refl)
+    where
+      given : ℕ → Number
+      given n = record { given = true; value = n }
+
+      go : (t : Bool) → isCount f ≡ t
+          → (if t then given (known .size % 4294967296) else record { given = false; value = 0 }) ≡ (if t then given (valueFrom 0 f) else record { given = false; value = 0 })
+      go true e = ap given (value e)
+      go false e = refl
 
 pub counted-known : (f g : List ℕ) → All IsByte f → All IsByte g → countedIn (withAll fresh f) (withAll fresh g) ≡ counted f g
 unfolding countedIn counted
@@ -133,9 +153,19 @@ module _ (s : Seen) (t : isVerb 4 0x74657374 s ≡ false) (w : isVerb 5 0x776f72
   unfolding aloneIn
   is-close d e = rw (t, w, d, e)
 
-  pub is-none : isVerb 6 0x696d706f7274 s ≡ false → isVerb 5 0x636c6f7365 s ≡ false → Nothing ≡ aloneIn s
-  unfolding aloneIn
-  is-none d e = rw (t, w, d, e)
+  -- nor one of the next two
+  module _ (i : isVerb 6 0x696d706f7274 s ≡ false) (c : isVerb 5 0x636c6f7365 s ≡ false) where
+    pub is-lighter : isVerb 7 0x6c696768746572 s ≡ true → Lighter ≡ aloneIn s
+    unfolding aloneIn
+    is-lighter e = rw (t, w, i, c, e)
+
+    pub is-pack : isVerb 7 0x6c696768746572 s ≡ false → isVerb 4 0x7061636b s ≡ true → Pack ≡ aloneIn s
+    unfolding aloneIn
+    is-pack l e = rw (t, w, i, c, l, e)
+
+    pub is-none : isVerb 7 0x6c696768746572 s ≡ false → isVerb 4 0x7061636b s ≡ false → Nothing ≡ aloneIn s
+    unfolding aloneIn
+    is-none l e = rw (t, w, i, c, l, e)
 
 pub is-day : (s n : Seen) → (isVerb 3 0x646179 s && countIn n) ≡ true → Day (n .size % 4294967296) ≡ countedIn s n
 unfolding countedIn
@@ -144,6 +174,22 @@ is-day s n e = rw e
 pub no-day : (s n : Seen) → (isVerb 3 0x646179 s && countIn n) ≡ false → Nothing ≡ countedIn s n
 unfolding countedIn
 no-day s n e = rw e
+
+pub is-calendar : (s : Seen) → isVerb 8 0x63616c656e646172 s ≡ true → Calendar ≡ datedIn s
+unfolding datedIn
+is-calendar s e = rw e
+
+pub no-calendar : (s : Seen) → isVerb 8 0x63616c656e646172 s ≡ false → Nothing ≡ datedIn s
+unfolding datedIn
+no-calendar s e = rw e
+
+pub is-given : (s : Seen) → countIn s ≡ true → record { given = true; value = s .size % 4294967296 } ≡ numberIn s
+unfolding numberIn
+is-given s e = rw e
+
+pub not-given : (s : Seen) → countIn s ≡ false → record { given = false; value = 0 } ≡ numberIn s
+unfolding numberIn
+not-given s e = rw e
 
 -- the words in all
 pub two-words : (n : ℕ) (f g : List ℕ) → n ≡ 2 → alone f ≡ askedOf n f g
@@ -154,6 +200,10 @@ pub three-words : (n : ℕ) (f g : List ℕ) → n ≡ 3 → counted f g ≡ ask
 unfolding askedOf
 three-words n f g e = rw e
 
-pub other-words : (n : ℕ) (f g : List ℕ) → (n ≡ 2 → ⊥) → (n ≡ 3 → ⊥) → Nothing ≡ askedOf n f g
+pub seven-words : (n : ℕ) (f g : List ℕ) → n ≡ 7 → dated f ≡ askedOf n f g
 unfolding askedOf
-other-words n f g d e = rw (ne-eqb n 2 d, ne-eqb n 3 e)
+seven-words n f g e = rw e
+
+pub other-words : (n : ℕ) (f g : List ℕ) → (n ≡ 2 → ⊥) → (n ≡ 3 → ⊥) → (n ≡ 7 → ⊥) → Nothing ≡ askedOf n f g
+unfolding askedOf
+other-words n f g d e h = rw (ne-eqb n 2 d, ne-eqb n 3 e, ne-eqb n 7 h)

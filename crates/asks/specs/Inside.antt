@@ -1,11 +1,12 @@
 -- The same by what is known of a word when its bytes have gone by. A reader of the words can leave this page out. Assumes nothing.
-use mathlib.Core.Bool.{Bool, _&&_, not}
+use mathlib.Core.Bool.{Bool, true, false, _&&_, not}
 use Prim.Native.Nat.{ℕ, _%_}
 use lib.Dec.{eqb, ltb}
 use Rattle.numbers.specs.Choice.{if_then_else_}
 use Rattle.values.specs.declared.Seen.{Seen}
 use Rattle.asks.specs.declared.Asked.{Asked}
-use Rattle.asks.specs.declared.Asked.the-variants.{Test, Worst, Day, Import, Close, Nothing}
+use Rattle.asks.specs.declared.Asked.the-variants.{Test, Worst, Day, Import, Close, Lighter, Pack, Calendar, Nothing}
+use Rattle.asks.specs.declared.Number.{Number}
 
 -- so many letters, as one number to the base 256
 abbrev pub isVerb : ℕ → ℕ → Seen → Bool
@@ -20,7 +21,15 @@ aloneIn s =
     else if isVerb 5 0x776f727374 s then Worst
     else if isVerb 6 0x696d706f7274 s then Import
     else if isVerb 5 0x636c6f7365 s then Close
+    else if isVerb 7 0x6c696768746572 s then Lighter
+    else if isVerb 4 0x7061636b s then Pack
     else Nothing
 
 unfoldable pub countedIn : Seen → Seen → Asked
 countedIn s n = if isVerb 3 0x646179 s && countIn n then Day (n .size % 4294967296) else Nothing
+
+unfoldable pub datedIn : Seen → Asked
+datedIn s = if isVerb 8 0x63616c656e646172 s then Calendar else Nothing
+
+unfoldable pub numberIn : Seen → Number
+numberIn s = if countIn s then record { given = true; value = s .size % 4294967296 } else record { given = false; value = 0 }

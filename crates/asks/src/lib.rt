@@ -1,13 +1,13 @@
-// What the words behind the name of the program `desk` ask: a verb, and for `day` a number. Takes any words. An inner room of that
-// program; specs/Asks states it.
+// What the words behind the name of the program `desk` ask: a verb, and for `day` a number; the five numbers behind `calendar`
+// are asked one at a time. Takes any words. An inner room of that program; specs/Asks states it.
 ghost use mathlib.Core.Path.{_≡_};
 ghost use mathlib.Core.Bool.{_&&_, not};
 ghost use Prim.Native.Nat.{_≤_, _^_};
 ghost use lib.Dec.{eqb, ltb};
 ghost use Rattle.numbers.specs.Fits.{All, IsByte};
 ghost use Rattle.values.specs.Inside.{fresh, with, withAll};
-ghost use Rattle.asks.specs.Asks.{askedOf};
-ghost use Rattle.asks.specs.Inside.{isVerb, countIn, aloneIn, countedIn};
+ghost use Rattle.asks.specs.Asks.{askedOf, numberOf};
+ghost use Rattle.asks.specs.Inside.{isVerb, countIn, aloneIn, countedIn, numberIn, datedIn};
 use values::Seen;
 
 // What is asked; nothing that the desk has a verb for.
@@ -17,7 +17,16 @@ pub enum Asked {
     Day(u32),
     Import,
     Close,
+    Lighter,
+    Pack,
+    Calendar,
     Nothing,
+}
+
+// Whether a word is a number, and which; 0 where it is none.
+pub struct Number {
+    pub given: bool,
+    pub value: u32,
 }
 
 // The verbs, their letters as one number to the base 256, the first letter highest.
@@ -30,6 +39,12 @@ const DAY: u64 = 0x646179;
 const IMPORT: u64 = 0x696d706f7274;
 
 const CLOSE: u64 = 0x636c6f7365;
+
+const LIGHTER: u64 = 0x6c696768746572;
+
+const PACK: u64 = 0x7061636b;
+
+const CALENDAR: u64 = 0x63616c656e646172;
 
 // What is known of a word with a byte more; and a byte is one.
 fn with_byte(s: Seen, c: u8) -> Seen
@@ -82,6 +97,12 @@ fn alone(s: Seen) -> Asked
     if is_verb(s, 5, CLOSE) {
         return Asked::Close;
     }
+    if is_verb(s, 7, LIGHTER) {
+        return Asked::Lighter;
+    }
+    if is_verb(s, 4, PACK) {
+        return Asked::Pack;
+    }
     Asked::Nothing
 }
 
@@ -95,6 +116,38 @@ fn counted(s: Seen, n: Seen) -> Asked
     Asked::Nothing
 }
 
+// A verb and five words, which are looked at one at a time.
+fn dated(s: Seen) -> Asked
+    ensures { λ a. ⌜ a ≡ datedIn s ⌝ }
+{
+    if is_verb(s, 8, CALENDAR) {
+        return Asked::Calendar;
+    }
+    Asked::Nothing
+}
+
+fn number_in(s: Seen) -> Number
+    ensures { λ n. ⌜ n ≡ numberIn s ⌝ }
+{
+    if is_count(s) {
+        return Number {
+            given: true,
+            value: (s.size % 4294967296) as u32,
+        };
+    }
+    Number {
+        given: false,
+        value: 0,
+    }
+}
+
+// The number that a word is.
+pub fn number_of(word: &[u8]) -> Number
+    ensures { λ n. ⌜ n ≡ numberOf (now (word .entry)) ⌝ }
+{
+    number_in(seen(word))
+}
+
 // What is asked by so many words, the program's name among them, the second and the third of which are these.
 pub fn ask(words: usize, verb: &[u8], word: &[u8]) -> Asked
     ensures { λ a. ⌜ a ≡ askedOf words (now (verb .entry)) (now (word .entry)) ⌝ }
@@ -104,6 +157,9 @@ pub fn ask(words: usize, verb: &[u8], word: &[u8]) -> Asked
     }
     if words == 3 {
         return counted(seen(verb), seen(word));
+    }
+    if words == 7 {
+        return dated(seen(verb));
     }
     Asked::Nothing
 }

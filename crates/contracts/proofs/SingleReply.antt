@@ -1,59 +1,70 @@
--- The contract of each open function permits a single reply for each argument, buffers included. A contract that is an
--- equation does so by one law; that of the plan test does by `one-answer`, that of the lighter plan by `one-lighter`. Assumes nothing.
+-- What each open function ensures permits a single reply for each argument, lent rooms included, and none asks anything. A contract
+-- that is an equation does so by one law; that of the plan test does by `one-answer`, and that of the lighter plan by `one-lighter`. Assumes
+-- nothing.
 use mathlib.Core.Path.{_≡_, sym, _∙_}
 use Rattle.vee.proofs.Single.{one-answer}
 use Rattle.lighter.proofs.Theorems.{one-lighter}
-use Rattle.contracts.specs.Contracts.{Single, SingleReplies}
+use Rattle.contracts.specs.Contracts.{SingleReplies}
 
 -- an equation permits one
-equal : {A : Type 0} (x : A) → Single (λ (r : A). r ≡ x)
-equal x r r′ e f = e ∙ sym f
+same : {A : Type 0} {x r r′ : A} → r ≡ x → r′ ≡ x → r ≡ r′
+same e f = e ∙ sym f
 
 pub single-replies : SingleReplies
 single-replies =
     record {
-      has = λ s p. equal _;
-      with = λ s p. equal _;
-      without = λ s p. equal _;
-      count = λ s. equal _;
-      first = λ s. equal _;
-      below = λ n. equal _;
-      subset = λ a b. equal _;
-      read = λ bytes. equal _;
-      check = λ p. equal _;
-      write = λ p out. (equal _, equal _);
-      split = λ d. equal _;
-      points-of = λ p. equal _;
-      links-of = λ p. equal _;
-      link-to = λ p q. equal _;
-      is-watched = λ p q. equal _;
-      import = λ text. equal _;
-      bound-kept = λ x d y. equal _;
-      both-in = λ n x y. equal _;
-      fresh = equal _;
-      reply-of = λ p b. equal _;
-      take-event = λ p b event. equal _;
-      take-all = λ p b events room. (equal _, equal _);
-      is-sound = λ p b. equal _;
-      is-finished = λ p b. equal _;
-      minute-of = λ b q. equal _;
-      ended = λ p b. equal _;
-      verdict-of = λ p b. equal _;
-      judge = λ p b list. equal _;
-      judge-list = λ p b list count. equal _;
-      test = λ p r r′. one-answer;
-      worst-of = λ p. equal _;
-      day-of = λ p projection out. (equal _, equal _);
-      close = λ p. equal _;
-      lighter-of = λ p r r′. one-lighter;
-      blank = equal _;
-      plan-line = λ number place. equal _;
-      numbers-line = λ a b c d. equal _;
-      event-line = λ event taken. equal _;
-      reply-line = λ event number. equal _;
-      test-line = λ a. equal _;
-      board-line = λ b reply. equal _;
-      point-line = λ point pond place. equal _;
-      tail-line = equal _;
-      end-line = λ p b. equal _;
+      has = (λ κ a. tt, λ κ a r r′ o o′ x y. same x y);
+      with = (λ κ a. tt, λ κ a r r′ o o′ x y. same x y);
+      without = (λ κ a. tt, λ κ a r r′ o o′ x y. same x y);
+      count = (λ κ a. tt, λ κ a r r′ o o′ x y. same x y);
+      first = (λ κ a. tt, λ κ a r r′ o o′ x y. same x y);
+      below = (λ κ a. tt, λ κ a r r′ o o′ x y. same x y);
+      subset = (λ κ a. tt, λ κ a r r′ o o′ x y. same x y);
+      read = (λ κ a. tt, λ κ a r r′ o o′ x y. same x y);
+      check = (λ κ a. tt, λ κ a r r′ o o′ x y. same x y);
+      write = (λ κ a. tt, λ κ a r r′ o o′ x y. same (x .0) (y .0));
+      write-leaves = λ κ a r r′ o o′ x y. same (x .1) (y .1);
+      split = (λ κ a. tt, λ κ a r r′ o o′ x y. same x y);
+      points-of = (λ κ a. tt, λ κ a r r′ o o′ x y. same x y);
+      links-of = (λ κ a. tt, λ κ a r r′ o o′ x y. same x y);
+      link-to = (λ κ a. tt, λ κ a r r′ o o′ x y. same x y);
+      is-watched = (λ κ a. tt, λ κ a r r′ o o′ x y. same x y);
+      import = (λ κ a. tt, λ κ a r r′ o o′ x y. same x y);
+      pack = (λ κ a. tt, λ κ a r r′ o o′ x y. same (x .0) (y .0));
+      pack-leaves = λ κ a r r′ o o′ x y. same (x .1) (y .1);
+      bound-kept = (λ κ a. tt, λ κ a r r′ o o′ x y. same x y);
+      both-in = (λ κ a. tt, λ κ a r r′ o o′ x y. same x y);
+      fresh = (λ κ a. tt, λ κ a r r′ o o′ x y. same x y);
+      minute-of = (λ κ a. tt, λ κ a r r′ o o′ x y. same x y);
+      take-event = (λ κ a. tt, λ κ a r r′ o o′ x y. same x y);
+      take-all = (λ κ a. tt, λ κ a r r′ o o′ x y. same (x .0) (y .0));
+      take-all-leaves = λ κ a r r′ o o′ x y. same (x .1) (y .1);
+      is-sound = (λ κ a. tt, λ κ a r r′ o o′ x y. same x y);
+      is-finished = (λ κ a. tt, λ κ a r r′ o o′ x y. same x y);
+      reply-of = (λ κ a. tt, λ κ a r r′ o o′ x y. same (x .0) (y .0));
+      ended = (λ κ a. tt, λ κ a r r′ o o′ x y. same x y);
+      verdict-of = (λ κ a. tt, λ κ a r r′ o o′ x y. same (x .0) (y .0));
+      judge = λ p b list r r′. same;
+      judge-list = (λ κ a. tt, λ κ a r r′ o o′ x y. same x y);
+      test = (λ κ a. tt, λ κ a r r′ o o′ x y. one-answer (x .0) (y .0));
+      worst-of = (λ κ a. tt, λ κ a r r′ o o′ x y. same x y);
+      day-of = (λ κ a. tt, λ κ a r r′ o o′ x y. same (x .0) (y .0));
+      day-of-leaves = λ κ a r r′ o o′ x y. same (x .1) (y .1);
+      close = (λ κ a. tt, λ κ a r r′ o o′ x y. same x y);
+      lighter-of = (λ κ a. tt, λ κ a r r′ o o′ x y. one-lighter x y);
+      is-origin = (λ κ a. tt, λ κ a r r′ o o′ x y. same x y);
+      shown = (λ κ a. tt, λ κ a r r′ o o′ x y. same x y);
+      most-text = (λ κ a. tt, λ κ a r r′ o o′ x y. same x y);
+      write-calendar = (λ κ a. tt, λ κ a r r′ o o′ x y. same (x .0) (y .0));
+      write-calendar-leaves = λ κ a r r′ o o′ x y. same (x .1) (y .1);
+      blank = (λ κ a. tt, λ κ a r r′ o o′ x y. same x y);
+      plan-line = (λ κ a. tt, λ κ a r r′ o o′ x y. same x y);
+      numbers-line = (λ κ a. tt, λ κ a r r′ o o′ x y. same x y);
+      event-line = (λ κ a. tt, λ κ a r r′ o o′ x y. same x y);
+      reply-line = (λ κ a. tt, λ κ a r r′ o o′ x y. same x y);
+      test-line = (λ κ a. tt, λ κ a r r′ o o′ x y. same x y);
+      board-line = (λ κ a. tt, λ κ a r r′ o o′ x y. same x y);
+      point-line = (λ κ a. tt, λ κ a r r′ o o′ x y. same x y);
+      tail-line = (λ κ a. tt, λ κ a r r′ o o′ x y. same x y);
+      end-line = (λ κ a. tt, λ κ a r r′ o o′ x y. same x y);
     }

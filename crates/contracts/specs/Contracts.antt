@@ -1,111 +1,149 @@
--- Document 01, "How firm the contracts are": for each open function of the libraries, in the order of docs/CONTRACTS.md, what
--- its contract permits, and that this is a single reply for each argument. Assumes nothing.
+-- Document 01, "How firm the contracts are": for each open function of the libraries, in the order of docs/CONTRACTS.md, that it
+-- asks nothing and that what it ensures permits a single reply for each argument. A row is over the function's own contract, as the
+-- checker reads it in the source (`Pre`, `Post`), so a contract that is lost or weakened is seen here. Assumes nothing.
 use mathlib.Core.Path.{_≡_}
-use mathlib.Core.Bool.{Bool}
-use mathlib.Core.List.{List, []}
+use mathlib.Core.List.{List}
 use Prim.Native.Nat.{ℕ}
-use lib.IntN.{ℤ}
-use lib.ListN.{take}
-use Rattle.points.specs.Sets.{member, withOf, withoutOf, countOf, firstOf, belowOf, subsetOf}
-use Rattle.plan.specs.APlan.{points, links, watched, endsAt, placeOf, gapOf, recordsOf}
-use Rattle.plan.specs.ReplyNumbers.{readOf, checkOf, writeOf, writtenOf}
+use Rattle.points.proofs.has.Reads as has-code
+use Rattle.points.proofs.with.Reads as with-code
+use Rattle.points.proofs.without.Reads as without-code
+use Rattle.points.proofs.count.Reads as count-code
+use Rattle.points.proofs.first.Reads as first-code
+use Rattle.points.proofs.below.Reads as below-code
+use Rattle.points.proofs.subset.Reads as subset-code
+use Rattle.plan.proofs.read.Reads as read-code
+use Rattle.plan.proofs.check.Reads as check-code
+use Rattle.plan.proofs.write.Reads as write-code
+use Rattle.numbers.proofs.split.Reads as split-code
+use Rattle.plan.proofs.points_of.Reads as points-of-code
+use Rattle.plan.proofs.links_of.Reads as links-of-code
+use Rattle.plan.proofs.link_to.Reads as link-to-code
+use Rattle.plan.proofs.is_watched.Reads as is-watched-code
+use Rattle.office.proofs.import.Reads as import-code
+use Rattle.bounds.proofs.bound_kept.Reads as bound-kept-code
+use Rattle.bounds.proofs.both_in.Reads as both-in-code
+use Rattle.board.proofs.fresh.Reads as fresh-code
+use Rattle.board.proofs.minute_of.Reads as minute-of-code
+use Rattle.board.proofs.Board.take.Reads as take-event-code
+use Rattle.board.proofs.Board.take_all.Reads as take-all-code
+use Rattle.board.proofs.is_sound.Reads as is-sound-code
+use Rattle.board.proofs.is_finished.Reads as is-finished-code
+use Rattle.replies.proofs.reply_of.Reads as reply-of-code
+use Rattle.verdict.proofs.ended.Reads as ended-code
+use Rattle.verdict.proofs.verdict_of.Reads as verdict-of-code
+use Rattle.lent.proofs.judge_list.Reads as judge-list-code
+use Rattle.vee.proofs.test.Reads as test-code
+use Rattle.worst.proofs.worst_of.Reads as worst-of-code
+use Rattle.worst.proofs.day_of.Reads as day-of-code
+use Rattle.closure.proofs.close.Reads as close-code
+use Rattle.lines.proofs.blank.Reads as blank-code
+use Rattle.listing.proofs.pack.Reads as pack-code
+use Rattle.lighter.proofs.lighter_of.Reads as lighter-of-code
+use Rattle.dates.proofs.is_origin.Reads as is-origin-code
+use Rattle.dates.proofs.shown.Reads as shown-code
+use Rattle.calendar.proofs.most_text.Reads as most-text-code
+use Rattle.calendar.proofs.write_calendar.Reads as write-calendar-code
+use Rattle.text.proofs.plan_line.Reads as plan-line-code
+use Rattle.text.proofs.numbers_line.Reads as numbers-line-code
+use Rattle.text.proofs.event_line.Reads as event-line-code
+use Rattle.text.proofs.reply_line.Reads as reply-line-code
+use Rattle.text.proofs.test_line.Reads as test-line-code
+use Rattle.text.proofs.board_line.Reads as board-line-code
+use Rattle.text.proofs.point_line.Reads as point-line-code
+use Rattle.text.proofs.tail_line.Reads as tail-line-code
+use Rattle.text.proofs.end_line.Reads as end-line-code
 use Rattle.plan.specs.declared.Plan.{Plan}
-use Rattle.numbers.specs.declared.Gap.{Gap}
-use Rattle.plan.specs.declared.Found.{Found}
-use Rattle.plan.specs.declared.Reading.{Reading}
-use Rattle.plan.specs.declared.Refusal.{Refusal}
-use Rattle.office.specs.Sheets.{importOf}
-use Rattle.office.specs.declared.Imported.{Imported}
-use Rattle.bounds.specs.Bounds.{boundKept, bothIn}
 use Rattle.bounds.specs.declared.Bound.{Bound}
-use Rattle.board.specs.Boards.{fresh, minute, sound}
-use Rattle.board.specs.Stuck.{finished}
-use Rattle.replies.specs.Replies.{replyOf}
-use Rattle.board.specs.Events.{takeOf}
-use Rattle.board.specs.Streams.{takeAllOf, saidAllOf}
-use Rattle.verdict.specs.Verdicts.{endedOf, verdictOf}
 use Rattle.board.specs.declared.Board.{Board}
-use Rattle.replies.specs.declared.Reply.{Reply}
-use Rattle.board.specs.declared.Taken.{Taken}
-use Rattle.verdict.specs.declared.Verdict.{Verdict}
 use Rattle.lent.specs.Judgement.{judgeOf}
 use Rattle.lent.specs.declared.Judged.{Judged}
-use Rattle.vee.specs.PlanTest.{Tested}
-use Rattle.vee.specs.declared.Answer.{Answer}
-use Rattle.worst.specs.WorstMinute.{worstOf, dayOf, dayWritten}
-use Rattle.worst.specs.declared.Worst.{Worst}
-use Rattle.worst.specs.declared.Day.{Day}
-use Rattle.closure.specs.Closing.{closeOf}
-use Rattle.lighter.specs.Lighter.{LighterOf}
-use Rattle.lighter.specs.declared.Lighter.{Lighter}
-use Rattle.replies.specs.declared.Place.{Place}
-use Rattle.lines.specs.Text.{lineOf}
-use Rattle.text.specs.Lines.{planLine, numbersLine, eventLine, replyLine, testLine, boardLine, pointLine, tailLine, endLine}
-use Rattle.lines.specs.declared.Line.{Line}
 
--- what is permitted has at most one instance
-abbrev pub Single : {A : Type 0} → (A → Type 0) → Type 0
-Single {A} permitted = (r r′ : A) → permitted r → permitted r′ → r ≡ r′
+-- a function asks nothing of its arguments a
+abbrev pub Asks : {K A : Type 0} → (K → A → Type 0) → Type 0
+Asks {K} {A} Pre = (κ : K) (a : A) → Pre κ a
 
--- of a reply and of what a buffer holds after the call
-abbrev pub SingleBoth : {A : Type 0} → (A → Type 0) → (List ℕ → Type 0) → Type 0
-SingleBoth permitted held = Single permitted × Single held
+-- two replies r and r′ that its contract permits for the same arguments are the same; o and o′ are what lent rooms hold then
+abbrev pub Replies : {K A R O : Type 0} → (K → A → R → O → Type 0) → Type 0
+Replies {K} {A} {R} {O} Post = (κ : K) (a : A) (r r′ : R) (o o′ : O) → Post κ a r o → Post κ a r′ o′ → r ≡ r′
+
+-- and so is what the room that it writes to holds, byte for byte
+abbrev pub Leaves : {K A R O : Type 0} → (K → A → R → O → Type 0) → (O → List ℕ) → Type 0
+Leaves {K} {A} {R} {O} Post held =
+    (κ : K) (a : A) (r r′ : R) (o o′ : O) → Post κ a r o → Post κ a r′ o′ → held o ≡ held o′
+
+-- it takes any arguments, and has a single reply
+abbrev pub Single : {K A R O : Type 0} → (K → A → Type 0) → (K → A → R → O → Type 0) → Type 0
+Single Pre Post = Asks Pre × Replies Post
 
 pub record SingleReplies : Type 0 where
   -- points
-  pub has : (s p : ℕ) → Single (λ (r : Bool). r ≡ member s p)
-  pub with : (s p : ℕ) → Single (λ (r : ℕ). r ≡ withOf s p)
-  pub without : (s p : ℕ) → Single (λ (r : ℕ). r ≡ withoutOf s p)
-  pub count : (s : ℕ) → Single (λ (r : ℕ). r ≡ countOf s)
-  pub first : (s : ℕ) → Single (λ (r : ℕ). r ≡ firstOf s)
-  pub below : (n : ℕ) → Single (λ (r : ℕ). r ≡ belowOf n)
-  pub subset : (a b : ℕ) → Single (λ (r : Bool). r ≡ subsetOf a b)
+  pub has : Single has-code.Pre has-code.Post
+  pub with : Single with-code.Pre with-code.Post
+  pub without : Single without-code.Pre without-code.Post
+  pub count : Single count-code.Pre count-code.Post
+  pub first : Single first-code.Pre first-code.Post
+  pub below : Single below-code.Pre below-code.Post
+  pub subset : Single subset-code.Pre subset-code.Post
   -- plan
-  pub read : (bytes : List ℕ) → Single (λ (r : Reading). r ≡ readOf bytes)
-  pub check : (p : Plan) → Single (λ (r : Refusal). r ≡ checkOf p)
-  pub write : (p : Plan) (out : List ℕ) → SingleBoth (λ (r : Refusal). r ≡ writeOf p out) (λ (held : List ℕ). held ≡ writtenOf p out)
-  pub split : (d : ℤ) → Single (λ (r : Gap). r ≡ gapOf d)
-  pub points-of : (p : Plan) → Single (λ (r : ℕ). r ≡ points (recordsOf p))
-  pub links-of : (p : Plan) → Single (λ (r : ℕ). r ≡ links (recordsOf p))
-  pub link-to : (p : Plan) (q : ℕ) → Single (λ (r : Found). r ≡ placeOf (endsAt q) (recordsOf p))
-  pub is-watched : (p : Plan) (q : ℕ) → Single (λ (r : Bool). r ≡ watched (recordsOf p) q)
+  pub read : Single read-code.Pre read-code.Post
+  pub check : Single check-code.Pre check-code.Post
+  pub write : Single write-code.Pre write-code.Post
+  pub write-leaves : Leaves write-code.Post (λ o. o .1 .0 .now)
+  pub split : Single split-code.Pre split-code.Post
+  pub points-of : Single points-of-code.Pre points-of-code.Post
+  pub links-of : Single links-of-code.Pre links-of-code.Post
+  pub link-to : Single link-to-code.Pre link-to-code.Post
+  pub is-watched : Single is-watched-code.Pre is-watched-code.Post
   -- office
-  pub import : (text : List ℕ) → Single (λ (r : Imported). r ≡ importOf text)
+  pub import : Single import-code.Pre import-code.Post
+  -- listing
+  pub pack : Single pack-code.Pre pack-code.Post
+  pub pack-leaves : Leaves pack-code.Post (λ o. o .1 .0 .now)
   -- bounds
-  pub bound-kept : (x : ℕ) (d : ℤ) (y : ℕ) → Single (λ (r : Bool). r ≡ boundKept x d y)
-  pub both-in : (n x y : ℕ) → Single (λ (r : Bool). r ≡ bothIn n x y)
+  pub bound-kept : Single bound-kept-code.Pre bound-kept-code.Post
+  pub both-in : Single both-in-code.Pre both-in-code.Post
   -- board
-  pub fresh : Single (λ (r : Board). r ≡ fresh)
-  pub reply-of : (p : Plan) (b : Board) → Single (λ (r : Reply). r ≡ replyOf p b)
-  pub take-event : (p : Plan) (b : Board) (event : List ℕ) → Single (λ (r : Taken). r ≡ takeOf p b event)
-  pub take-all : (p : Plan) (b : Board) (events room : List ℕ)
-      → SingleBoth (λ (r : Taken). r ≡ takeAllOf p b events room) (λ (held : List ℕ). held ≡ saidAllOf p b events room)
-  pub is-sound : (p : Plan) (b : Board) → Single (λ (r : Bool). r ≡ sound (recordsOf p) b)
-  pub is-finished : (p : Plan) (b : Board) → Single (λ (r : Bool). r ≡ finished (recordsOf p) b)
-  pub minute-of : (b : Board) (q : ℕ) → Single (λ (r : ℕ). r ≡ minute b q)
-  pub ended : (p : Plan) (b : Board) → Single (λ (r : Refusal). r ≡ endedOf p b)
-  pub verdict-of : (p : Plan) (b : Board) → Single (λ (r : Verdict). r ≡ verdictOf p b)
+  pub fresh : Single fresh-code.Pre fresh-code.Post
+  pub minute-of : Single minute-of-code.Pre minute-of-code.Post
+  pub take-event : Single take-event-code.Pre take-event-code.Post
+  pub take-all : Single take-all-code.Pre take-all-code.Post
+  pub take-all-leaves : Leaves take-all-code.Post (λ o. o .1 .1 .1 .0 .now)
+  pub is-sound : Single is-sound-code.Pre is-sound-code.Post
+  pub is-finished : Single is-finished-code.Pre is-finished-code.Post
+  -- replies
+  pub reply-of : Single reply-of-code.Pre reply-of-code.Post
+  -- verdict
+  pub ended : Single ended-code.Pre ended-code.Post
+  pub verdict-of : Single verdict-of-code.Pre verdict-of-code.Post
   -- lent
-  pub judge : (p : Plan) (b : Board) (list : List Bound) → Single (λ (r : Judged). r ≡ judgeOf p b list)
-  pub judge-list : (p : Plan) (b : Board) (list : List Bound) (count : ℕ) → Single (λ (r : Judged). r ≡ judgeOf p b (take count list))
+  -- `judge` is proved by a walk of its own, and the checker exports no contract of it by name: the row says its words again
+  pub judge : (p : Plan) (b : Board) (list : List Bound) (r r′ : Judged) → r ≡ judgeOf p b list → r′ ≡ judgeOf p b list → r ≡ r′
+  pub judge-list : Single judge-list-code.Pre judge-list-code.Post
   -- vee
-  pub test : (p : Plan) → Single (λ (r : Answer). Tested p r)
+  pub test : Single test-code.Pre test-code.Post
   -- worst
-  pub worst-of : (p : Plan) → Single (λ (r : Worst). r ≡ worstOf p)
-  pub day-of : (p : Plan) (projection : ℕ) (out : List ℕ)
-      → SingleBoth (λ (r : Day). r ≡ dayOf p projection out) (λ (held : List ℕ). held ≡ dayWritten p projection out)
+  pub worst-of : Single worst-of-code.Pre worst-of-code.Post
+  pub day-of : Single day-of-code.Pre day-of-code.Post
+  pub day-of-leaves : Leaves day-of-code.Post (λ o. o .1 .1 .0 .now)
   -- closure
-  pub close : (p : Plan) → Single (λ (r : Reading). r ≡ closeOf p)
+  pub close : Single close-code.Pre close-code.Post
   -- lighter
-  pub lighter-of : (p : Plan) → Single (λ (r : Lighter). LighterOf p r)
+  pub lighter-of : Single lighter-of-code.Pre lighter-of-code.Post
+  -- dates
+  pub is-origin : Single is-origin-code.Pre is-origin-code.Post
+  pub shown : Single shown-code.Pre shown-code.Post
+  -- calendar
+  pub most-text : Single most-text-code.Pre most-text-code.Post
+  pub write-calendar : Single write-calendar-code.Pre write-calendar-code.Post
+  pub write-calendar-leaves : Leaves write-calendar-code.Post (λ o. o .1 .1 .1 .0 .now)
   -- text
-  pub blank : Single (λ (r : Line). r ≡ lineOf [])
-  pub plan-line : (number place : ℕ) → Single (λ (r : Line). r ≡ planLine number place)
-  pub numbers-line : (a b c d : ℕ) → Single (λ (r : Line). r ≡ numbersLine a b c d)
-  pub event-line : (event : ℕ) (taken : Taken) → Single (λ (r : Line). r ≡ eventLine event taken)
-  pub reply-line : (event number : ℕ) → Single (λ (r : Line). r ≡ replyLine event number)
-  pub test-line : (a : Answer) → Single (λ (r : Line). r ≡ testLine a)
-  pub board-line : (b : Board) (reply : Reply) → Single (λ (r : Line). r ≡ boardLine b reply)
-  pub point-line : (point pond : ℕ) (place : Place) → Single (λ (r : Line). r ≡ pointLine point pond place)
-  pub tail-line : Single (λ (r : Line). r ≡ tailLine)
-  pub end-line : (p : Plan) (b : Board) → Single (λ (r : Line). r ≡ endLine p b)
+  pub blank : Single blank-code.Pre blank-code.Post
+  pub plan-line : Single plan-line-code.Pre plan-line-code.Post
+  pub numbers-line : Single numbers-line-code.Pre numbers-line-code.Post
+  pub event-line : Single event-line-code.Pre event-line-code.Post
+  pub reply-line : Single reply-line-code.Pre reply-line-code.Post
+  pub test-line : Single test-line-code.Pre test-line-code.Post
+  pub board-line : Single board-line-code.Pre board-line-code.Post
+  pub point-line : Single point-line-code.Pre point-line-code.Post
+  pub tail-line : Single tail-line-code.Pre tail-line-code.Post
+  pub end-line : Single end-line-code.Pre end-line-code.Post

@@ -1,8 +1,8 @@
 // `desk import`: comma-separated text from the growers' office, and the plan file that it says. A refusal goes to standard error with
 // its line, and nothing is written. A text is held whole, so one that is longer than any sheet is wrong usage.
-ghost use mathlib.Core.Path.{_≡_};
-ghost use lib.ListN.{length};
+use crate::input::TEXT_ROOM;
 use crate::input::read_all;
+use crate::input::text_room;
 use crate::made::write_plan;
 use crate::say::say;
 use libc::STDERR_FILENO;
@@ -10,17 +10,7 @@ use office::import;
 use plan::ACCEPTED;
 use stream::within;
 
-// The longest text.
-const ROOM: usize = 262144;
-
 const TOO_LONG: [u8; 51] = *b"usage: a text for import has at most 262144 bytes.\n";
-
-// Room for it. The `ensures` gives only the length, which lending it as a slice needs.
-fn text_room() -> [u8; ROOM]
-    ensures { λ r. ⌜ 262144 ≡ length r ⌝ }
-{
-    [0; ROOM]
-}
 
 // What the first so many bytes say.
 fn imported(text: &[u8], length: usize) {
@@ -37,7 +27,7 @@ pub(crate) fn run() {
     let mut room = text_room();
     let text: &mut [u8] = &mut room;
     let length = read_all(text);
-    if (ROOM as u64) < length {
+    if (TEXT_ROOM as u64) < length {
         io::write_all(STDERR_FILENO, &TOO_LONG);
         return;
     }

@@ -1,4 +1,6 @@
-// Standard input as one plan file: its front is kept, and of the rest only how long it is.
+// Standard input as one file: its front is kept, and of the rest only how long it is.
+ghost use mathlib.Core.Path.{_≡_};
+ghost use lib.ListN.{length};
 use libc::STDIN_FILENO;
 use plan::Reading;
 use std::num::wrapping_add_u64;
@@ -33,4 +35,14 @@ pub(crate) fn read_all(front: &mut [u8]) -> u64 {
 pub(crate) fn plan_in(front: &mut [u8]) -> Reading {
     let length = read_all(front);
     read_front(length, front)
+}
+
+// The longest text or listing, which is held whole.
+pub(crate) const TEXT_ROOM: usize = 262144;
+
+// Room for it. The `ensures` gives only the length, which lending it as a slice needs.
+pub(crate) fn text_room() -> [u8; TEXT_ROOM]
+    ensures { λ r. ⌜ 262144 ≡ length r ⌝ }
+{
+    [0; TEXT_ROOM]
 }

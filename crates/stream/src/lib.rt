@@ -18,6 +18,7 @@ pub use list::ponds_of;
 pub use many::said_line;
 pub use sheet::BEGUN;
 pub use sheet::EVENT;
+pub use sheet::PLANNING;
 pub use sheet::PLAYING;
 pub use sheet::REFUSED;
 pub use sheet::Sheet;

@@ -12,7 +12,7 @@ use plan::RECORD_BYTES;
 use std::num::wrapping_add_u64;
 
 // Still in the plan part; among the events; over, since the plan is refused.
-const PLANNING: u8 = 0;
+pub const PLANNING: u8 = 0;
 
 pub const PLAYING: u8 = 1;
 

@@ -82,14 +82,24 @@ pub fn event(minute: u32, foreman: u8, set: &[u8]) -> [u8; 16] {
     bytes
 }
 
-/// A board with these points done at these minutes; the clock is the largest.
+/// A board with these points done at these minutes, each by an event of its own, in the order of minutes and of the list;
+/// the clock is the largest.
 pub fn board(done: &[(usize, u32)]) -> Board {
     let mut board = Board::fresh();
-    for &(point, minute) in done {
+    let mut done = done.to_vec();
+    done.sort_by_key(|&(_, minute)| minute);
+    for (number, (point, minute)) in (1..).zip(done) {
         board.done |= 1 << point;
         board.minutes[point] = minute;
-        board.clock = board.clock.max(minute);
+        board.numbers[point] = number;
+        board.clock = minute;
     }
+    board
+}
+
+/// The board with these event numbers of the first points.
+pub fn numbered(mut board: Board, numbers: &[u32]) -> Board {
+    board.numbers[..numbers.len()].copy_from_slice(numbers);
     board
 }
 

@@ -2,7 +2,7 @@
 use native.Mathlib.Omega.{arith}
 use borrow.Author.Needs.{needs}
 use mathlib.Core.Path.{sym, _∙_}
-use Rattle.asks.proofs.Known.{is-test, is-worst, is-import, is-close, is-none}
+use Rattle.asks.proofs.Known.{is-test, is-worst, is-import, is-close, is-lighter, is-pack, is-none}
 use Rattle.asks.proofs.alone.Statement.{statement}
 use Rattle.asks.proofs.alone.Tie as tie
 use Rattle.asks.proofs.alone.Reads as reads
@@ -35,12 +35,51 @@ returns-4 c =
     is-close _ (sym (c .before .before .before .before .before .before .before .is-verb .ensures) ∙ c .before .before .before .before .before .before .if1 .left) (sym (c .before .before .before .before .before .is-verb2 .ensures) ∙ c .before .before .before .before .if2 .left) (sym (c .before .before .before .is-verb3 .ensures) ∙ c .before .before .if3 .left)
     (sym (c .before .is-verb4 .ensures) ∙ c .if4 .taken)
 
+is-verb-requires-5 : tie.Need-is-verb-requires-5
+is-verb-requires-5 c κs = search needs
+
 returns-5 : tie.Need-returns-5
 returns-5 c =
-    is-none _ (sym (c .before .before .before .before .before .before .before .is-verb .ensures) ∙ c .before .before .before .before .before .before .if1 .left) (sym (c .before .before .before .before .before .is-verb2 .ensures) ∙ c .before .before .before .before .if2 .left) (sym (c .before .before .before .is-verb3 .ensures) ∙ c .before .before .if3 .left)
-    (sym (c .before .is-verb4 .ensures) ∙ c .if4 .left)
+    is-lighter _ (sym (c .before .before .before .before .before .before .before .before .before .is-verb .ensures) ∙ c .before .before .before .before .before .before .before .before .if1 .left) (sym (c .before .before .before .before .before .before .before .is-verb2 .ensures) ∙ c .before .before .before .before .before .before .if2 .left) (sym (c .before .before .before .before .before .is-verb3 .ensures) ∙ c .before .before .before .before .if3 .left)
+    (sym (c .before .before .before .is-verb4 .ensures) ∙ c .before .before .if4 .left) (sym (c .before .is-verb5 .ensures) ∙ c .if5 .taken)
+
+is-verb-requires-6 : tie.Need-is-verb-requires-6
+is-verb-requires-6 c κs = search needs
+
+returns-6 : tie.Need-returns-6
+returns-6 c =
+    is-pack _
+    (sym (c .before .before .before .before .before .before .before .before .before .before .before .is-verb .ensures) ∙ c .before .before .before .before .before .before .before .before .before .before .if1 .left)
+    (sym (c .before .before .before .before .before .before .before .before .before .is-verb2 .ensures) ∙ c .before .before .before .before .before .before .before .before .if2 .left)
+    (sym (c .before .before .before .before .before .before .before .is-verb3 .ensures) ∙ c .before .before .before .before .before .before .if3 .left)
+    (sym (c .before .before .before .before .before .is-verb4 .ensures) ∙ c .before .before .before .before .if4 .left)
+    (sym (c .before .before .before .is-verb5 .ensures) ∙ c .before .before .if5 .left)
+    (sym (c .before .is-verb6 .ensures) ∙ c .if6 .taken)
+
+returns-7 : tie.Need-returns-7
+returns-7 c =
+    is-none _
+    (sym (c .before .before .before .before .before .before .before .before .before .before .before .is-verb .ensures) ∙ c .before .before .before .before .before .before .before .before .before .before .if1 .left)
+    (sym (c .before .before .before .before .before .before .before .before .before .is-verb2 .ensures) ∙ c .before .before .before .before .before .before .before .before .if2 .left)
+    (sym (c .before .before .before .before .before .before .before .is-verb3 .ensures) ∙ c .before .before .before .before .before .before .if3 .left)
+    (sym (c .before .before .before .before .before .is-verb4 .ensures) ∙ c .before .before .before .before .if4 .left)
+    (sym (c .before .before .before .is-verb5 .ensures) ∙ c .before .before .if5 .left)
+    (sym (c .before .is-verb6 .ensures) ∙ c .if6 .left)
 
 pub alone-spec : {M : Type 1} → statement M
 alone-spec =
     tie.close
-    (tie.spec is-verb-requires returns is-verb-requires-2 returns-2 is-verb-requires-3 returns-3 is-verb-requires-4 returns-4 returns-5)
+    (tie.spec
+    is-verb-requires
+    returns
+    is-verb-requires-2
+    returns-2
+    is-verb-requires-3
+    returns-3
+    is-verb-requires-4
+    returns-4
+    is-verb-requires-5
+    returns-5
+    is-verb-requires-6
+    returns-6
+    returns-7)

@@ -2,14 +2,15 @@
 use native.Mathlib.Omega.{arith}
 use borrow.Author.Needs.{needs}
 use mathlib.Core.Path.{ap, _∙_}
-use Rattle.asks.specs.Inside.{aloneIn}
-use Rattle.asks.proofs.Known.{alone-known, counted-known, two-words, three-words, other-words}
+use Rattle.asks.specs.Inside.{aloneIn, datedIn}
+use Rattle.asks.proofs.Known.{alone-known, counted-known, dated-known, two-words, three-words, seven-words, other-words}
 use Rattle.asks.proofs.ask.Statement.{statement}
 use Rattle.asks.proofs.ask.Tie as tie
 use Rattle.asks.proofs.ask.Reads as reads
 use Rattle.asks.proofs.ask.Lts as lts
 use Rattle.asks.proofs.alone.Reads as alone-reads
 use Rattle.asks.proofs.counted.Reads as counted-reads
+use Rattle.asks.proofs.dated.Reads as dated-reads
 use Rattle.asks.proofs.seen.Reads as seen-reads
 
 seen-requires : tie.Need-seen-requires
@@ -38,8 +39,19 @@ returns-2 c =
     let n = c .before .seen3 .ensures in
     c .counted .ensures ∙ rw (k .0, n .0) (counted-known _ _ (k .1) (n .1)) ∙ three-words _ _ _ (c .before .before .before .if2 .taken)
 
+seen-requires-4 : tie.Need-seen-requires-4
+seen-requires-4 c κs = search needs
+
+dated-requires : tie.Need-dated-requires
+dated-requires c κs = search needs
+
 returns-3 : tie.Need-returns-3
-returns-3 c = other-words _ _ _ (c .before .if1 .left) (c .if2 .left)
+returns-3 c =
+    let k = c .before .seen4 .ensures in
+    c .dated .ensures ∙ ap datedIn (k .0) ∙ dated-known _ (k .1) ∙ seven-words _ _ _ (c .before .before .if3 .taken)
+
+returns-4 : tie.Need-returns-4
+returns-4 c = other-words _ _ _ (c .before .before .if1 .left) (c .before .if2 .left) (c .if3 .left)
 
 pub ask-spec : {M : Type 1} → statement M
 ask-spec =
@@ -52,4 +64,7 @@ ask-spec =
     seen-requires-3
     counted-requires
     returns-2
-    returns-3)
+    seen-requires-4
+    dated-requires
+    returns-3
+    returns-4)

@@ -6,10 +6,10 @@ use Rattle.printing.proofs.print.Statement.{statement}
 use Rattle.printing.proofs.print.Tie as tie
 
 abbrev Inv-loop : tie.InvT-loop
-Inv-loop full chunk₀ lines₀ sheet₀ out₀ left₀ turns₀ chunk lines sheet out left turns = (length chunk ≡ length chunk₀) × (length lines ≡ length lines₀)
+Inv-loop full chunk₀ lines₀ went₀ turns₀ chunk lines went turns = (length chunk ≡ length chunk₀) × (length lines ≡ length lines₀)
 
 abbrev μ-loop : tie.MeasureT-loop
-μ-loop full chunk₀ lines₀ sheet₀ out₀ left₀ turns₀ chunk lines sheet out left turns = turns
+μ-loop full chunk₀ lines₀ went₀ turns₀ chunk lines went turns = turns
 
 slice-aggregate-chunk : tie.Need-slice-aggregate-chunk Inv-loop μ-loop
 slice-aggregate-chunk c = search needs

@@ -1,6 +1,6 @@
 -- `printing::records` meets its contract. Assumes nothing.
 use mathlib.Core.Path.{_≡_}
-use Prim.Native.Nat.{_≤_, _<_, _-_, _/_, _^_}
+use Prim.Native.Nat.{_≤_, _<_, _-_, _*_, _^_}
 use lib.ListN.{length}
 use Rattle.plan.specs.Limits.{recordBytes}
 use borrow.Author.Needs.{needs}
@@ -8,10 +8,10 @@ use Rattle.printing.proofs.records.Statement.{statement}
 use Rattle.printing.proofs.records.Tie as tie
 
 abbrev Inv-loop : tie.InvT-loop
-Inv-loop full chunk n lines₀ now₀ wait₀ i₀ lines now wait i = (i ≤ n / recordBytes) × (n ≤ length chunk) × (length chunk < 2 ^ 63) × (length lines ≡ length lines₀)
+Inv-loop full chunk i n lines₀ now₀ wait₀ next₀ lines now wait next = (recordBytes * n ≤ length chunk) × (length chunk < 2 ^ 63) × (length lines ≡ length lines₀)
 
 abbrev μ-loop : tie.MeasureT-loop
-μ-loop full chunk n lines₀ now₀ wait₀ i₀ lines now wait i = n / recordBytes - i
+μ-loop full chunk i n lines₀ now₀ wait₀ next₀ lines now wait next = n - next
 
 loop-holds : tie.Need-loop-holds Inv-loop μ-loop
 loop-holds c = search needs
@@ -34,12 +34,4 @@ returns c = search needs
 pub records-spec : {M : Type 1} → statement M
 records-spec =
     tie.close
-    (tie.spec
-    Inv-loop
-    μ-loop
-    loop-holds
-    step-requires
-    loop-less
-    loop-again
-    same-length
-    returns)
+    (tie.spec Inv-loop μ-loop loop-holds step-requires loop-less loop-again same-length returns)

@@ -1,0 +1,10 @@
+-- `phrases::is_blank` meets its contract. Assumes nothing.
+use mathlib.Core.Path.{refl}
+use Rattle.phrases.proofs.is_blank.Statement.{statement}
+use Rattle.phrases.proofs.is_blank.Tie as tie
+
+returns : tie.Need-returns
+returns c = refl
+
+pub is-blank-spec : {M : Type 1} → statement M
+is-blank-spec = tie.close (tie.spec returns)

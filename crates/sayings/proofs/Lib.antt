@@ -1,0 +1,4 @@
+-- The modules of proofs that belong to no one function. Other crates cite the ones that are `pub`.
+mod ARow
+mod Rowing
+pub mod Telling

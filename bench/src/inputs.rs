@@ -177,6 +177,9 @@ pub fn with_board(board: &Board) -> Vec<u8> {
     for (point, &minute) in board.minutes.iter().enumerate() {
         bytes.extend(request(4, [point as u8, 0, 0], [minute, 0, 0]));
     }
+    for (point, &number) in board.numbers.iter().enumerate() {
+        bytes.extend(request(8, [point as u8, 0, 0], [number, 0, 0]));
+    }
     bytes
 }
 

@@ -1,4 +1,4 @@
-//! The benchmark: bench PLAIN PROBE SHEET, each the words that start a program, joined by spaces.
+//! The benchmark: bench PLAIN PROBE SHEET DESK, each the words that start a program, joined by spaces.
 //! Started by bench/run from the folder above. README.md says what the lines are.
 
 mod inputs;
@@ -31,15 +31,16 @@ struct Sides {
 fn main() -> ExitCode {
     let words: Vec<String> = std::env::args().collect();
     let split = |text: &str| -> Words { text.split_whitespace().map(str::to_string).collect() };
-    let [_, plain, probe, sheet] = &words[..] else {
-        eprintln!("usage: bench PLAIN PROBE SHEET");
+    let [_, plain, probe, sheet, desk] = &words[..] else {
+        eprintln!("usage: bench PLAIN PROBE SHEET DESK");
         return ExitCode::from(2);
     };
     let sides = |ours: &str, name: &str| Sides {
         ours: split(ours),
         plain: [split(plain), vec![name.to_string()]].concat(),
     };
-    let result = table(&sides(probe, "probe"), &sides(sheet, "sheet"));
+    let lighter = sides(&format!("{desk} lighter"), "lighter");
+    let result = table(&sides(probe, "probe"), &sides(sheet, "sheet"), &lighter);
     match result {
         Ok(()) => ExitCode::SUCCESS,
         Err(error) => {
@@ -49,7 +50,7 @@ fn main() -> ExitCode {
     }
 }
 
-fn table(probe: &Sides, sheet: &Sides) -> io::Result<()> {
+fn table(probe: &Sides, sheet: &Sides, lighter: &Sides) -> io::Result<()> {
     println!(
         "| what | points | records | projections | ours | plain C | ratio | least | largest |"
     );
@@ -94,7 +95,25 @@ fn table(probe: &Sides, sheet: &Sides) -> io::Result<()> {
         call(probe, "the plan test", *size, TEST)?;
     }
     million(sheet, FULL)?;
-    million(sheet, by_records[1])
+    million(sheet, by_records[1])?;
+    // A typical plan of 122 records, and one of half as many.
+    for ordinary in [85, 42] {
+        let size = Size {
+            points: 20,
+            ordinary,
+            waits: 12,
+            projections: 512,
+        };
+        made_lighter(lighter, size)?;
+    }
+    Ok(())
+}
+
+/// One line: a plan made lighter by the whole program.
+fn made_lighter(sides: &Sides, size: Size) -> io::Result<()> {
+    let machine = Machine::new();
+    machine.input(&inputs::plan(size).to_bytes())?;
+    line(&machine, sides, "a lighter plan", size, [0.0; 2], 1.0)
 }
 
 /// What stands on the desk for a call.

@@ -46,25 +46,19 @@ impl Machine {
         File::create(&self.scratch)?.write_all(bytes)
     }
 
-    /// Runs a program: what it printed, if that is wanted, and its seconds.
+    /// Runs a program: what it printed, if that is wanted, on standard error last, and its seconds.
     pub fn run(&self, words: &Words, wanted: bool) -> io::Result<(Vec<u8>, f64)> {
         let before = children();
         let mut command = Command::new(&words[0]);
         command.args(&words[1..]).stdin(File::open(&self.scratch)?);
-        command.stdout(if wanted {
-            Stdio::piped()
-        } else {
-            Stdio::null()
-        });
-        let output = command
-            .stderr(Stdio::inherit())
-            .spawn()?
-            .wait_with_output()?;
+        let end = || if wanted { Stdio::piped() } else { Stdio::null() };
+        command.stdout(end()).stderr(end());
+        let output = command.spawn()?.wait_with_output()?;
         if !output.status.success() {
             let what = format!("{} ended with {}", words.join(" "), output.status);
             return Err(io::Error::other(what));
         }
-        Ok((output.stdout, children() - before))
+        Ok(([output.stdout, output.stderr].concat(), children() - before))
     }
 }
 

@@ -12,6 +12,7 @@ use Rattle.plan.specs.Limits.{mostPoints}
 use Rattle.plan.specs.APlan.{some, points, watched}
 use Rattle.records.specs.declared.Record.{Record}
 use Rattle.lowhigh.specs.Rules.{shuts, never, isOpen}
+use Rattle.lowhigh.proofs.Windowing.{nothing-so}
 use Rattle.windows.specs.Inside.{Minus, leastAt}
 
 -- ---- the walk over the open points
@@ -38,7 +39,7 @@ module _ (rs : List Record) (done : ℕ) (few : points rs ≤ mostPoints) (watch
   pub opens-here : (q : ℕ) → q < mostPoints → member opens q ≡ isOpen rs done q
   opens-here q h =
       let m : min (points rs) 32 ≡ points rs = omega arith in
-      rw (three .members q, two .members q, one .members q, member-below (points rs) q, m, links q h, shut-by q h)
+      rw (three .members q, two .members q, one .members q, member-below (points rs) q, m, links q h, shut-by q h, nothing-so 0 (shuts rs done q) rs)
       (regroup (ltb q (points rs)) (not (watched rs q)) (not (member done q)) (not (some (shuts rs done q) rs)))
     where
       regroup : (a b c d : Bool) → (((a && b) && c) && d) ≡ ((a && (b && c)) && d)

@@ -13,7 +13,7 @@ use Rattle.records.specs.declared.Record.{Record}
 use Rattle.history.specs.History.{runs}
 use Rattle.links.specs.Inside.{setNumber}
 use Rattle.events.specs.Fields.{eventMinute, eventPoint, noPoint, eventSet, wellFormed}
-use Rattle.lowhigh.specs.Rules.{never, isOpen, low, high}
+use Rattle.lowhigh.specs.Rules.{never, foremans, isOpen, holder, low, high}
 use Rattle.windows.specs.declared.Windows.{Windows}
 
 -- the points of s that are not in t
@@ -26,11 +26,13 @@ unfoldable pub leastAt : List ℕ → List ℕ → ℕ
 leastAt highs [] = never
 leastAt highs (q ∷ qs) = min (getD highs q 0) (leastAt highs qs)
 
--- the windows: which points are open, each one's Low, and the least High of the open ones
+-- the windows: which points are open, which record keeps each of the others shut, each one's Low, and the least High of the
+-- open ones
 pub record WindowsOf (rs : List Record) (clock done : ℕ) (minutes : List ℕ) (w : Windows) : Type 0 where
   pub fits : w .opens < 2 ^ 32
   pub long : length (w .lows) ≡ mostPoints
   pub opens : (q : ℕ) → q < mostPoints → member (w .opens) q ≡ isOpen rs done q
+  pub holders : (q : ℕ) → q < mostPoints → getD (w .holders) q 0 ≡ holder rs done q
   pub lows : (q : ℕ) → q < mostPoints → getD (w .lows) q 0 ≡ low rs clock done minutes q
   pub highs : List ℕ
   pub high-by : (q : ℕ) → q < mostPoints → getD highs q 0 ≡ high rs done minutes q

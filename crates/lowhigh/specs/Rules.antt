@@ -49,6 +49,11 @@ numberAt (At i) = i
 abbrev pub holder : List Record → ℕ → ℕ → ℕ
 holder rs done q = numberAt (shutBy rs done q)
 
+-- the record beside the number n of an event for the point q: beside 28 the one that keeps q shut, none where q is watched or
+-- done; none beside any other number
+abbrev pub beside : List Record → ℕ → ℕ → ℕ → ℕ
+beside rs done q n = if eqb n 28 && foremans rs done q then holder rs done q else 0
+
 -- the minute before which r keeps q: Y − d for a record from q to a done Y, A + w for a wait on q whose link is running,
 -- else 0
 abbrev pub earliest : List Record → ℕ → List ℕ → ℕ → Record → ℕ

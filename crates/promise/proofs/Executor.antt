@@ -20,7 +20,7 @@ use Rattle.plan.proofs.Accepted.{Accepted, accepted-plan}
 use Rattle.board.specs.Boards.{fresh, sound}
 use Rattle.board.specs.Windows.{someOpen}
 use Rattle.board.specs.Stuck.{finished, stuck}
-use Rattle.replies.specs.Replies.{outcomeOf, isOffer, offer, bare, replyOf}
+use Rattle.replies.specs.Replies.{outcomeOf, replyFor, replyOf}
 use Rattle.board.specs.Events.{eventSet, eventNumber, boardAfter, taken, takeOf}
 use Rattle.verdict.specs.Verdicts.{firstBroken, endedOf, verdictOf}
 use Rattle.board.specs.declared.Board.{Board}
@@ -53,7 +53,7 @@ set-fits s h = omega (arith, byte-at s h 8, byte-at s h 9, byte-at s h 10, byte-
 -- ---- the outcome
 
 -- the reply to a board that is not refused has its outcome
-reply-outcome : (rs : List Record) (b : Board) (o : Outcome) → (if isOffer o then offer rs b else bare o) .outcome ≡ o
+reply-outcome : (rs : List Record) (b : Board) (o : Outcome) → replyFor o rs b .outcome ≡ o
 reply-outcome rs b (Refused n i) = refl
 reply-outcome rs b Finished = refl
 reply-outcome rs b Stuck = refl

@@ -21,7 +21,7 @@ use Rattle.board.specs.Boards.{fresh, sound}
 use Rattle.board.specs.Windows.{someOpen}
 use Rattle.board.specs.Stuck.{finished, stuck}
 use Rattle.replies.specs.Replies.{outcomeOf, replyFor, replyOf}
-use Rattle.board.specs.Events.{eventSet, eventNumber, boardAfter, taken, takeOf}
+use Rattle.board.specs.Events.{eventSet, eventNumber, eventRecord, boardAfter, taken, takeOf}
 use Rattle.verdict.specs.Verdicts.{firstBroken, endedOf, verdictOf}
 use Rattle.board.specs.declared.Board.{Board}
 use Rattle.replies.specs.declared.Outcome.{Outcome}
@@ -87,7 +87,7 @@ module _ (p : Plan) (ok : checkOf p .number ≡ 0) where
   -- What taking an event answers, for a plan that is accepted.
   pub take-is : (b : Board) (s : List ℕ) → takeOf p b s
       ≡ (if not (sound (recordsOf p) b) then taken 20 0 b
-      else if not (eqb (eventNumber (recordsOf p) b s) 0) then taken (eventNumber (recordsOf p) b s) 0 b
+      else if not (eqb (eventNumber (recordsOf p) b s) 0) then taken (eventNumber (recordsOf p) b s) (eventRecord (recordsOf p) b s) b
       else taken 0 0 (boardAfter b s))
   unfolding takeOf
   take-is b s = rw ok
@@ -96,8 +96,8 @@ module _ (p : Plan) (ok : checkOf p .number ≡ 0) where
   pub took : (b : Board) (s : List ℕ) → sound (recordsOf p) b ≡ true → takeOf p b s .number ≡ 0 → (eventNumber (recordsOf p) b s ≡ 0) × (takeOf p b s .board ≡ boardAfter b s)
   took b s g e = rw (take-is b s, g) (go (eqb (eventNumber (recordsOf p) b s) 0) refl (rw (take-is b s, g) at e))
     where
-      go : (n : Bool) → eqb (eventNumber (recordsOf p) b s) 0 ≡ n → (if not n then taken (eventNumber (recordsOf p) b s) 0 b else taken 0 0 (boardAfter b s)) .number ≡ 0
-          → (eventNumber (recordsOf p) b s ≡ 0) × ((if not n then taken (eventNumber (recordsOf p) b s) 0 b else taken 0 0 (boardAfter b s)) .board ≡ boardAfter b s)
+      go : (n : Bool) → eqb (eventNumber (recordsOf p) b s) 0 ≡ n → (if not n then taken (eventNumber (recordsOf p) b s) (eventRecord (recordsOf p) b s) b else taken 0 0 (boardAfter b s)) .number ≡ 0
+          → (eventNumber (recordsOf p) b s ≡ 0) × ((if not n then taken (eventNumber (recordsOf p) b s) (eventRecord (recordsOf p) b s) b else taken 0 0 (boardAfter b s)) .board ≡ boardAfter b s)
       go true f e = (eqb-true _ _ f, refl)
       go false f e = clash (rw e at f)
 

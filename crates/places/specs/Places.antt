@@ -1,5 +1,6 @@
 -- The line of one point in the list of a reply. Assumes nothing.
 use mathlib.Core.Path.{_≡_}
+use mathlib.Core.Bool.{Bool, true, false}
 use mathlib.Core.List.{List}
 use Prim.Native.Nat.{ℕ, _-_, _<_, min}
 use lib.ListN.{length, getD}
@@ -10,9 +11,19 @@ use Rattle.plan.specs.declared.Plan.{Plan}
 use Rattle.replies.specs.declared.Place.{Place}
 use Rattle.replies.specs.declared.State.{State}
 use Rattle.replies.specs.declared.State.the-variants.{Done, Watched, Shut, Held, Offered}
+use Rattle.replies.specs.declared.Outcome.{Outcome}
+use Rattle.replies.specs.declared.Outcome.the-variants.{Refused, Finished, Stuck, Waiting, Offers}
 use Rattle.replies.specs.declared.Reply.{Reply}
 use Rattle.text.specs.Lines.{pointLine}
 use Rattle.lines.specs.declared.Line.{Line}
+
+-- a board that is neither refused nor finished has a list
+abbrev pub hasList : Outcome → Bool
+hasList (Refused n i) = false
+hasList Finished = false
+hasList Stuck = true
+hasList Waiting = true
+hasList Offers = true
 
 -- what stands past a list's end; no line is made of it
 abbrev pub nowhere : Place

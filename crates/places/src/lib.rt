@@ -4,18 +4,32 @@ ghost use mathlib.Core.Path.{_≡_};
 ghost use Prim.Native.Nat.{_<_, min};
 ghost use Rattle.plan.specs.Limits.{mostPoints};
 ghost use Rattle.plan.specs.APlan.{points, recordsOf, blank};
-ghost use Rattle.places.specs.Places.{ForEach, pondAt, namedBy, reasonAt, lineAt};
+ghost use Rattle.places.specs.Places.{hasList, ForEach, pondAt, namedBy, reasonAt, lineAt};
 use events::fewer;
 use plan::MOST_POINTS;
 use plan::MOST_RECORDS;
 use plan::Plan;
 use plan::Record;
+use replies::Outcome;
 use replies::Reply;
 use replies::State;
 use text::Line;
 
 // A place for each point.
 pub const ROOM: usize = MOST_POINTS as usize;
+
+// Whether there is a list to print.
+pub fn has_list(outcome: Outcome) -> bool
+    ensures { λ t. ⌜ t ≡ hasList outcome ⌝ }
+{
+    match outcome {
+        Outcome::Refused(_, _) => false,
+        Outcome::Finished => false,
+        Outcome::Stuck => true,
+        Outcome::Waiting => true,
+        Outcome::Offers => true,
+    }
+}
 
 // The pond code of each of a plan's first records, which are its points.
 pub fn ponds_of(plan: Plan) -> [u32; ROOM]

@@ -312,8 +312,8 @@ const ALL: &[Wrong] = &[
     wrong(
         "sheet",
         "a running link unsticks a board",
-        "    return true;\n}\n\nstatic i64 latest_of",
-        "    return !any_running(p, b);\n}\n\nstatic i64 latest_of",
+        "    return true;\n}\n\n// The record for a point",
+        "    return !any_running(p, b);\n}\n\n// The record for a point",
     ),
     wrong(
         "sheet",

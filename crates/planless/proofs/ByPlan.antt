@@ -21,14 +21,14 @@ use Rattle.windows.specs.declared.Windows.{Windows}
 use Rattle.windows.proofs.Opening.{beside-here}
 use Rattle.planless.specs.ByWindows.{stuckBy, laterBy, numberBy}
 
-module _ (rs : List Record) (ok : Accepted rs) (l : Links) (has : LinksOf rs l) (clock done : ℕ) (minutes : List ℕ) (w : Windows) where
+module _ (rs : List Record) (ok : Accepted rs) (l : Links) (has : LinksOf rs l) (done : ℕ) (w : Windows) where
   -- stuck
   pub stuck-same : stuckBy l done w ≡ stuckFrom rs done w
   stuck-same = λ i.
       if eqb (w .opens) 0 then not (any-runs rs ok l has done i)
       else every (λ (q : ℕ). ltb (w .high) (getD (w .lows) q 0 + farthest)) (membersOf (w .opens))
 
-  module _ (s : List ℕ) where
+  module _ (clock : ℕ) (minutes s : List ℕ) where
     -- 23 to 30
     later-same : laterBy l clock done minutes w s ≡ laterNumber rs clock done minutes w s
     unfolding laterBy laterNumber

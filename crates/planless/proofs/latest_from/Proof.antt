@@ -11,10 +11,10 @@ sub-if1-2 : tie.Need-sub-if1-2
 sub-if1-2 c = search needs
 
 add-lesser : tie.Need-add-lesser
-add-lesser c = search needs
+add-lesser c = omega (arith, c .if1 .taken)
 
 add-lesser-2 : tie.Need-add-lesser-2
-add-lesser-2 c = search needs
+add-lesser-2 c = omega (arith, c .if1 .taken)
 
 lesser-requires : tie.Need-lesser-requires
 lesser-requires c κs = search needs

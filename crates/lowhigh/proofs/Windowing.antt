@@ -3,7 +3,7 @@
 use mathlib.Core.Path.{_≡_, refl, sym, ap, _∙_}
 use mathlib.Core.Bool.{Bool, true, false, not, _&&_, _||_}
 use mathlib.Core.List.{List, [], _∷_, _++_}
-use Prim.Native.Nat.{ℕ, suc, _+_, _%_, _^_, _≤_, _<_, min, max}
+use Prim.Native.Nat.{ℕ, _+_, _%_, _^_, _≤_, _<_, min, max}
 use native.Mathlib.Omega.{arith}
 use native.Mathlib.Decide.{ℕ-discrete}
 use borrow.Author.Tests.{eqb-true, eq-eqb, ne-eqb}
@@ -15,15 +15,14 @@ use Rattle.points.proofs.Laws.{member-empty, member-small, member-with, with-fi
 use Rattle.plan.specs.Choice.{if_then_else_}
 use Rattle.plan.specs.Limits.{mostPoints}
 use Rattle.plan.specs.APlan.{link, ordinary, wait, is, some, watched, endsAt, linkTo, gapOf, blank}
-use Rattle.plan.specs.declared.Found.the-variants.{At, Nothing}
 use Rattle.records.specs.declared.Record.{Record}
 use Rattle.history.specs.History.{minuteIn}
-use Rattle.history.proofs.Tests.{clash}
-use Rattle.lowhigh.specs.Rules.{shuts, placeFrom, isNothing, numberAt, earliest, greatest, bound, least, never}
+use Rattle.lowhigh.specs.Rules.{shuts, placeFrom, numberAt, earliest, greatest, bound, least, never}
 use Rattle.links.specs.Inside.{noEnd, endOf, LinksOf}
 use Rattle.lowhigh.specs.Inside.{saysOf, held, TablesOf}
 use Rattle.plan.proofs.Records.{some-snoc, one-more}
 use Rattle.links.proofs.Linking.{runs-to}
+use Rattle.lowhigh.proofs.Firsts.{place-snoc, no-place}
 use Rattle.links.specs.declared.End.{End}
 use Rattle.links.specs.declared.Links.{Links}
 use Rattle.lowhigh.specs.declared.Said.{Said}
@@ -64,46 +63,6 @@ pub least-le : (f : Record → ℕ) (rs : List Record) → least f rs ≤ never
 unfolding least
 least-le f [] = omega arith
 least-le f (x ∷ rs) = omega (arith, least-le f rs)
-
--- the first record that is so, with a record more, where i is the place of the first of all
-pub place-snoc : (i : ℕ) (so : Record → Bool) (rs : List Record) (r : Record)
-    → numberAt (placeFrom i so (rs ++ (r ∷ []))) ≡ (if some so rs then numberAt (placeFrom i so rs) else if so r then i + length rs else 0)
-unfolding placeFrom some
-place-snoc i so [] r = go (so r)
-  where
-    go : (t : Bool) → numberAt (if t then At i else Nothing) ≡ (if t then i + 0 else 0)
-    go true = omega arith
-    go false = refl
-place-snoc i so (x ∷ rs) r = go (so x) (place-snoc (suc i) so rs r)
-  where
-    more : i + suc (length rs) ≡ suc i + length rs
-    more = omega arith
-
-    go : (t : Bool) → numberAt (placeFrom (suc i) so (rs ++ (r ∷ []))) ≡ (if some so rs then numberAt (placeFrom (suc i) so rs) else if so r then suc i + length rs else 0)
-        → numberAt (if t then At i else placeFrom (suc i) so (rs ++ (r ∷ [])))
-        ≡ (if t || some so rs then numberAt (if t then At i else placeFrom (suc i) so rs) else if so r then i + suc (length rs) else 0)
-    go true e = refl
-    go false e = rw more e
-
--- no place where none is so
-pub no-place : (i : ℕ) (so : Record → Bool) (rs : List Record) → some so rs ≡ false → placeFrom i so rs ≡ Nothing
-unfolding placeFrom some
-no-place i so [] e = refl
-no-place i so (x ∷ rs) e = go (so x) e (no-place (suc i) so rs)
-  where
-    go : (t : Bool) → (t || some so rs) ≡ false → (some so rs ≡ false → placeFrom (suc i) so rs ≡ Nothing) → (if t then At i else placeFrom (suc i) so rs) ≡ Nothing
-    go true e f = clash e
-    go false e f = f e
-
--- there is no place exactly where none is so
-pub nothing-so : (i : ℕ) (so : Record → Bool) (rs : List Record) → isNothing (placeFrom i so rs) ≡ not (some so rs)
-unfolding placeFrom some
-nothing-so i so [] = refl
-nothing-so i so (x ∷ rs) = go (so x) (nothing-so (suc i) so rs)
-  where
-    go : (t : Bool) → isNothing (placeFrom (suc i) so rs) ≡ not (some so rs) → isNothing (if t then At i else placeFrom (suc i) so rs) ≡ not (t || some so rs)
-    go true e = refl
-    go false e = e
 
 -- ---- one place of a table
 

@@ -14,7 +14,7 @@ use Rattle.plan.specs.Limits.{mostPoints}
 use Rattle.plan.specs.APlan.{some, points, watched}
 use Rattle.records.specs.declared.Record.{Record}
 use Rattle.lowhigh.specs.Rules.{shuts, never, isOpen, holder, beside}
-use Rattle.lowhigh.proofs.Windowing.{nothing-so}
+use Rattle.lowhigh.proofs.Firsts.{nothing-so}
 use Rattle.links.specs.Inside.{LinksOf}
 use Rattle.links.specs.declared.Links.{Links}
 use Rattle.windows.specs.Inside.{Minus, leastAt, WindowsOf, besideFrom}

@@ -4,4 +4,4 @@ pub mod Theorems
 pub mod Opening
 pub mod Replying
 pub mod Taking
-mod Streaming
+pub mod Streaming

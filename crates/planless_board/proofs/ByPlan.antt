@@ -1,5 +1,5 @@
 -- From an accepted plan's links and from a board's windows, the reply, the number of an event with the record beside it, and the
--- event taken are those from the plan's records. Assumes nothing.
+-- event taken are those from the plan's records; and the board after it is sound. Assumes nothing.
 use mathlib.Core.Path.{_≡_, refl, _∙_}
 use mathlib.Core.Bool.{Bool, true, false, not}
 use mathlib.Core.List.{List}
@@ -9,11 +9,14 @@ use lib.Dec.{eqb}
 use borrow.Author.Tests.{eqb-true, eqb-false}
 use Rattle.points.specs.Sets.{belowOf}
 use Rattle.plan.specs.Choice.{if_then_else_}
-use Rattle.plan.proofs.Accepted.{Accepted}
+use Rattle.plan.specs.APlan.{recordsOf}
+use Rattle.plan.specs.ReplyNumbers.{checkOf}
+use Rattle.plan.specs.declared.Plan.{Plan}
+use Rattle.plan.proofs.Accepted.{Accepted, accepted-plan}
 use Rattle.records.specs.declared.Record.{Record}
 use Rattle.links.specs.Inside.{LinksOf}
 use Rattle.links.specs.declared.Links.{Links}
-use Rattle.events.specs.Fields.{eventPoint}
+use Rattle.events.specs.Fields.{eventPoint, eventSet}
 use Rattle.events.specs.Inside.{eventIn}
 use Rattle.windows.specs.Inside.{latestFrom, besideFrom}
 use Rattle.windows.specs.Inside as windows
@@ -27,8 +30,9 @@ use Rattle.board.specs.InsideReplies.{WindowsOf}
 use Rattle.board.specs.declared.Board.{Board}
 use Rattle.board.proofs.Opening.{windows-here}
 use Rattle.board.proofs.Replying.{nothing-open, something-open, stuck-here}
+use Rattle.board.proofs.Streaming.{next-sound}
 use Rattle.board.proofs.Taking.{number-here, record-here}
-use Rattle.board.proofs.Theorems.Soundness.{few-calls}
+use Rattle.board.proofs.Theorems.Soundness.{HeldBoard, few-calls}
 use Rattle.planless.specs.ByWindows.{stuckBy}
 use Rattle.planless.proofs.ByPlan.{stuck-same, numbered}
 use Rattle.replies.specs.Replies.{bare, soundReply}
@@ -80,3 +84,10 @@ module _ (rs : List Record) (ok : Accepted rs) (l : Links) (has : LinksOf rs l) 
     taken-same e d =
         let next : nextBy b ≡ nextCall b = omega (arith, few-calls rs b e d) in
         λ i. if not (eqb (number-same i) 0) then taken (number-same i) (record-same i) b else taken 0 0 (afterEvent b (eventIn s) (next i))
+
+-- the board that is handed back is sound again
+pub taken-sound : (p : Plan) → checkOf p .number ≡ 0 → (l : Links) → LinksOf (recordsOf p) l → (b : Board) → HeldBoard b → sound (recordsOf p) b ≡ true
+    → (w : Windows) → windows.WindowsOf (recordsOf p) (b .clock) (b .done) (b .minutes) w → (s : List ℕ) → eventSet s < 2 ^ 32
+    → sound (recordsOf p) (takenBy l b w s .board) ≡ true
+taken-sound p ok l has b held good w ws s fits =
+    rw (taken-same (recordsOf p) (accepted-plan p ok) l has b w ws s good (held .done)) (next-sound p ok b held good s fits)

@@ -1,6 +1,12 @@
 -- `lowhigh::hold` meets its contract. Assumes nothing.
 use native.Mathlib.Omega.{arith}
 use borrow.Author.Needs.{needs}
+use mathlib.Core.Path.{ap, _∙_}
+use mathlib.Core.Bool.{not, _&&_}
+use Prim.Native.Nat.{ℕ, _%_}
+use lib.ListN.{getD, set}
+use Rattle.plan.specs.Choice.{if_then_else_}
+use Rattle.plan.specs.Limits.{mostPoints}
 use Rattle.lowhigh.proofs.hold.Statement.{statement}
 use Rattle.lowhigh.proofs.hold.Tie as tie
 
@@ -26,7 +32,11 @@ same-length : tie.Need-same-length
 same-length c = search needs
 
 returns : tie.Need-returns
-returns c = rw (c .either .ensures, c .before .before .has .ensures)
+returns c =
+    let a = c .before .before .before .before .args in
+    let at = a .p % mostPoints in
+    let v = c .either .ensures ∙ (λ i. if a .so && not (c .before .before .has .ensures i) then a .i else getD (a .holders .now) at 0) in
+    ap (λ (x : ℕ). set (a .holders .now) at x) v
 
 pub hold-spec : {M : Type 1} → statement M
 hold-spec =

@@ -1,5 +1,5 @@
-// The rules of document 01, with the twin records and the event numbers of document 02, in plain C, by the same passes as the proved
-// programs, to measure those against: `plain sheet` is the printing program, `plain probe` takes the requests of compare/PROBE.md, and
+// The rules of document 01, with the twin records and the event numbers of document 02 and why a point is shut, in plain C, by the same
+// passes as the proved programs, to measure those against: `plain sheet` is the printing program, `plain probe` takes the requests of compare/PROBE.md, and
 // `plain lighter` is `desk lighter`. Every call checks the plan and the board that it is given, as the proved ones do. Nothing here
 // is proved.
 #include <stdbool.h>
@@ -16,7 +16,7 @@ typedef int64_t i64;
 
 enum { POINTS = 32, LINKS = 8, ORDINARIES = 1024, WAITS = 64, RECORDS = POINTS + LINKS + ORDINARIES + WAITS, RECORD = 16, FARTHEST = 100000 };
 enum { POINT = 1, LINK, ORDINARY, WAIT };
-enum { LISTED = 4096, SAID = 3, STREAM_ROOM = 12288 };
+enum { LISTED = 4096, SAID = 4, STREAM_ROOM = 12288 };
 
 typedef struct { u8 kind, a, b; i32 first, second; u32 code; } record;
 typedef struct { u32 count; record records[RECORDS]; } plan;
@@ -193,34 +193,40 @@ static void links_of(const plan *p, links *l) {
 
 #define NO_HIGH INT64_MAX
 
-typedef struct { u32 opens; i64 lows[POINTS], high; } windows;
+// Of each point the first record that shuts it, 0 for none: that is a point's.
+typedef struct { u32 opens, shut, firsts[POINTS]; i64 lows[POINTS], high; } windows;
+
+static void shuts(windows *w, u8 v, u32 i) {
+    w->shut |= 1u << v;
+    if (w->firsts[v] == 0) w->firsts[v] = i;
+}
 
 // One pass over the records, then the open points.
 static void windows_of(const plan *p, const board *b, const links *l, windows *w) {
-    u32 shut = 0;
     i64 highs[POINTS];
-    for (u32 i = 0; i < POINTS; i++) w->lows[i] = b->clock, highs[i] = NO_HIGH;
+    w->shut = 0;
+    for (u32 i = 0; i < POINTS; i++) w->lows[i] = b->clock, highs[i] = NO_HIGH, w->firsts[i] = 0;
     for (u32 i = 0; i < p->count; i++) {
         const record *r = &p->records[i];
         if (r->kind == ORDINARY) {
             if (has(b->done, r->b)) {
                 i64 low = (i64)b->minutes[r->b] - r->first;
                 if (low > w->lows[r->a]) w->lows[r->a] = low;
-            } else if (r->first < 0) shut |= 1u << r->a;
+            } else if (r->first < 0) shuts(w, r->a, i);
             if (has(b->done, r->a)) {
                 i64 high = (i64)b->minutes[r->a] + r->first;
                 if (high < highs[r->b]) highs[r->b] = high;
             }
         } else if (r->kind == WAIT) {
             u8 a = l->from[r->b];
-            if (!has(b->done, a)) shut |= 1u << r->a;
+            if (!has(b->done, a)) shuts(w, r->a, i);
             else if (!has(b->done, r->b)) {
                 i64 low = (i64)b->minutes[a] + r->first;
                 if (low > w->lows[r->a]) w->lows[r->a] = low;
             }
         }
     }
-    w->opens = below(points_of(p)) & ~(l->watched | b->done | shut);
+    w->opens = below(points_of(p)) & ~(l->watched | b->done | w->shut);
     w->high = NO_HIGH;
     for (u32 rest = w->opens; rest; rest &= rest - 1) {
         i64 high = highs[__builtin_ctz(rest)];
@@ -243,6 +249,11 @@ static bool is_stuck(const plan *p, const board *b, const windows *w) {
     return true;
 }
 
+// The record for a point that is not open: a watched or a done one has none.
+static u32 why_shut(const board *b, const links *l, const windows *w, u8 v) {
+    return has(l->watched | b->done, v) ? 0 : w->firsts[v];
+}
+
 static i64 latest_of(const board *b, const windows *w) {
     i64 furthest = (i64)b->clock + FARTHEST;
     return w->high < furthest ? w->high : furthest;
@@ -251,7 +262,8 @@ static i64 latest_of(const board *b, const windows *w) {
 enum { REFUSED = 100, FINISHED, STUCK, WAITING, OFFERS };
 enum { DONE = 1, WATCHED, SHUT, HELD, OFFERED };
 
-typedef struct { u32 state, minute; } place;
+// A minute where it is done or offered, the record where it is shut.
+typedef struct { u32 state, with; } place;
 typedef struct { u32 outcome, latest; refusal refused; place places[POINTS]; } reply;
 
 static void reply_of(const plan *p, const board *b, reply *out) {
@@ -269,26 +281,24 @@ static void reply_of(const plan *p, const board *b, reply *out) {
     windows w;
     links_of(p, &l);
     windows_of(p, b, &l, &w);
-    out->outcome = STUCK;
-    if (is_stuck(p, b, &w)) return;
-    out->outcome = WAITING;
-    if (w.opens == 0) return;
-    out->outcome = OFFERS;
     i64 latest = latest_of(b, &w);
-    out->latest = latest;
-    for (u8 i = 0; i < POINTS; i++) {
+    if (is_stuck(p, b, &w)) out->outcome = STUCK;
+    else if (w.opens == 0) out->outcome = WAITING;
+    else out->outcome = OFFERS, out->latest = latest;
+    for (u8 i = 0; i < n; i++) {
         place *at = &out->places[i];
         if (has(b->done, i)) *at = (place){DONE, b->minutes[i]};
         else if (has(l.watched, i)) *at = (place){WATCHED, 0};
-        else if (!has(w.opens, i)) *at = (place){SHUT, 0};
-        else if (w.lows[i] > latest) *at = (place){HELD, 0};
+        else if (!has(w.opens, i)) *at = (place){SHUT, why_shut(b, &l, &w, i)};
+        else if (out->outcome == STUCK || w.lows[i] > latest) *at = (place){HELD, 0};
         else *at = (place){OFFERED, w.lows[i]};
     }
 }
 
 // --- Events: numbers 20 to 30 ---
 
-static u32 event_number(const plan *p, const board *b, const u8 *e, size_t length) {
+// The number of an event; with 28 the record that keeps its point shut.
+static u32 event_number(const plan *p, const board *b, const u8 *e, size_t length, u32 *why) {
     u32 n = points_of(p);
     if (b->done == below(n)) return 21;
     links l;
@@ -315,7 +325,7 @@ static u32 event_number(const plan *p, const board *b, const u8 *e, size_t lengt
         if (r->kind == LINK && has(b->done, r->a) && !has(b->done | set, r->b)
             && minute > (u64)b->minutes[r->a] + r->second) return 27;
     }
-    if (v != 255 && !has(w.opens, v)) return 28;
+    if (v != 255 && !has(w.opens, v)) return *why = why_shut(b, &l, &w, v), 28;
     if (v != 255 && minute < w.lows[v]) return 29;
     if (w.opens && minute > latest_of(b, &w)) return 30;
     return 0;
@@ -325,8 +335,8 @@ static refusal take(const plan *p, board *b, const u8 *e, size_t length) {
     refusal found = check(p);
     if (found.number) return found;
     if (!is_sound(p, b)) return (refusal){20, 0};
-    u32 number = event_number(p, b, e, length);
-    if (number) return (refusal){number, 0};
+    u32 why = 0, number = event_number(p, b, e, length, &why);
+    if (number) return (refusal){number, why};
     u32 points = word_at(e + 8) | (e[4] == 255 ? 0 : 1u << e[4]);
     u32 call = 0;
     for (u32 rest = b->done; rest; rest &= rest - 1)
@@ -340,16 +350,17 @@ static refusal take(const plan *p, board *b, const u8 *e, size_t length) {
     return found;
 }
 
-// The whole events of some bytes one after the other, as far as there is room to say three numbers of each.
+// The whole events of some bytes one after the other, as far as there is room to say four numbers of each.
 static refusal take_all(const plan *p, board *b, const u8 *events, size_t length, u32 *room, size_t numbers) {
     refusal found = check(p);
     if (found.number) return found;
     if (!is_sound(p, b)) return (refusal){20, 0};
     for (size_t i = 0; RECORD * (i + 1) <= length && SAID * (i + 1) <= numbers; i++) {
         u32 *said = room + SAID * i;
-        said[0] = take(p, b, events + RECORD * i, RECORD).number;
-        said[1] = b->clock;
-        said[2] = b->done;
+        refusal one = take(p, b, events + RECORD * i, RECORD);
+        said[0] = one.number, said[1] = one.place;
+        said[2] = b->clock;
+        said[3] = b->done;
     }
     return found;
 }
@@ -722,7 +733,7 @@ static void call(u8 asked, u32 first, u32 second) {
         reply_of(&desk_plan, &desk_board, &r);
         if (r.outcome == REFUSED) say(16, r.refused.number, r.refused.place, sum);
         else say(16, r.outcome, r.latest, sum);
-        for (u32 i = 0; i < POINTS; i++) say(i, r.places[i].state, r.places[i].minute, 0);
+        for (u32 i = 0; i < POINTS; i++) say(i, r.places[i].state, r.places[i].with, 0);
     } else if (asked == 17) {
         board b;
         for (u32 k = 0; k < times; k++) {

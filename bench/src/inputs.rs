@@ -122,8 +122,8 @@ pub fn run(plan: &Plan) -> Run {
     while board::outcome(plan, &boards[events.len()]) != Outcome::Finished {
         let at = boards[events.len()];
         let taken = |event: [u8; RECORD]| {
-            let (number, after) = event::take(plan, &at, &event);
-            (number == 0).then_some((event, after))
+            let (refusal, after) = event::take(plan, &at, &event);
+            (refusal == (0, 0)).then_some((event, after))
         };
         let moves = moves(plan, &at).into_iter().filter_map(taken);
         let (event, after) = moves
@@ -150,7 +150,7 @@ impl Run {
 pub fn refused(plan: &Plan, at: &Board) -> [u8; RECORD] {
     let point = |v: u8| record(at.clock(), v, 0);
     let mut all = (0..plan.points() as u8).map(point);
-    let late = |event: &[u8; RECORD]| event::take(plan, at, event).0 >= 28;
+    let late = |event: &[u8; RECORD]| event::take(plan, at, event).0 .0 >= 28;
     all.find(late).expect("some point is shut or too early")
 }
 

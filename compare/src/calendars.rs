@@ -494,7 +494,7 @@ fn streams(draw: &mut Draw) -> Vec<Ask> {
                 let mut all = Vec::new();
                 for good in events {
                     let wrong = events::spoiled(draw, &plan, &at, good);
-                    if event::take(&plan, &at, &wrong).0 != 0 {
+                    if event::take(&plan, &at, &wrong).0 != (0, 0) {
                         all.push(wrong);
                     }
                     all.push(good);

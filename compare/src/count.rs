@@ -2,6 +2,7 @@
 //! answers of the probe; and what links and boards there were in the inputs.
 
 use crate::links::{EVENTS, SHAPES, TENS};
+use crate::shut;
 use crate::soundness;
 use std::collections::BTreeMap;
 
@@ -17,7 +18,7 @@ fn printing() -> Vec<String> {
 }
 
 /// What must come up besides in the lines of `offers`.
-const OFFERS: [&str; 13] = [
+const OFFERS: [&str; 19] = [
     "test yes",
     "test cycle",
     "test pair",
@@ -28,21 +29,33 @@ const OFFERS: [&str; 13] = [
     "board offers",
     "point done",
     "point watched",
-    "point shut",
+    "point shut, ordinary",
+    "point shut, wait",
     "point held",
     "point offered",
+    "board waiting, a point shut",
+    "board stuck, a point shut",
+    "board stuck, a point held",
+    "event 28 with a record",
+    "event 28 without",
 ];
 
 /// What must come up in the answers of the probe, by the number of the call (compare/PROBE.md): `plan` is a refused plan.
-const PROBE: [(&str, &[&str]); 10] = [
+const PROBE: [(&str, &[&str]); 13] = [
     ("16", &["plan", "20", "101", "102", "103", "104"]),
-    ("place", &["1", "2", "3", "4", "5"]),
+    (
+        "place",
+        &["1", "2", "3 with a record", "3 without", "4", "5"],
+    ),
+    ("waiting, place", &["1", "2", "3 with a record"]),
+    ("stuck, place", &["1", "2", "3 with a record", "4"]),
     (
         "17",
         &[
             "0", "plan", "20", "21", "22", "23", "24", "25", "26", "27", "28", "29", "30",
         ],
     ),
+    ("28", &["with a record", "without"]),
     ("18", &["0", "plan", "20", "31", "100"]),
     (
         "19",
@@ -71,15 +84,28 @@ fn expected(name: &str) -> Vec<String> {
         }
         all.extend(SHAPES.iter().chain(&TENS).map(|key| key.to_string()));
         all.extend(soundness::keys().map(str::to_string));
+        let why = shut::LISTS.iter().chain(&shut::TOLD);
+        let why = why.chain(&shut::STREAMED);
+        all.extend(why.map(|key| key.to_string()));
         return all;
     }
     all.extend(printing());
     if name == "offers" {
         all.extend(OFFERS.map(str::to_string));
+        let why = shut::LISTS.iter().chain(&shut::TOLD);
+        all.extend(why.map(|key| key.to_string()));
     }
     let links = SHAPES.iter().chain(&TENS).chain(&EVENTS);
     all.extend(links.map(|key| key.to_string()));
     all
+}
+
+/// Is that a record, and not none?
+fn with_a_record(record: &str) -> &'static str {
+    match record {
+        "0" => "without",
+        _ => "with a record",
+    }
 }
 
 /// The keys of the probe's answers, each with as many lines after it as it has.
@@ -90,7 +116,7 @@ fn probe_keys(text: &str) -> Vec<String> {
     let mut checked = "0";
     while let Some(line) = lines.next() {
         let words: Vec<&str> = line.split(' ').collect();
-        let [call, number, _, _] = words[..] else {
+        let [call, number, record, _] = words[..] else {
             keys.push(format!("unknown line {line:?}"));
             continue;
         };
@@ -110,9 +136,25 @@ fn probe_keys(text: &str) -> Vec<String> {
             _ => continue,
         };
         keys.push(format!("{call} {answer}"));
+        if (call, number) == ("17", "28") {
+            keys.push(format!("28 {}", with_a_record(record)));
+        }
         for line in lines.by_ref().take(more) {
             if call == "16" {
-                let state = line.split(' ').nth(1).unwrap_or("none");
+                let words: Vec<&str> = line.split(' ').collect();
+                let state = match words[..] {
+                    [_, "3", record, _] => format!("3 {}", with_a_record(record)),
+                    [_, state, _, _] => state.to_string(),
+                    _ => "none".to_string(),
+                };
+                // Room past the last point is in every list.
+                if state != "3 without" {
+                    match number {
+                        "102" => keys.push(format!("stuck, place {state}")),
+                        "103" => keys.push(format!("waiting, place {state}")),
+                        _ => {}
+                    }
+                }
                 keys.push(format!("place {state}"));
             }
         }
@@ -131,14 +173,47 @@ fn key(line: &str) -> String {
         ["test", "pair", _, _, _] => "test pair".to_string(),
         ["test", answer @ ("yes" | "cycle"), _] => format!("test {answer}"),
         ["test", number] => format!("test {number}"),
+        ["event", _, "28", _] => "event 28 with a record".to_string(),
+        ["event", _, "28"] => "event 28 without".to_string(),
         ["event", _, number] => format!("event {number}"),
         ["board", _, _, "offers", _] => "board offers".to_string(),
         ["board", _, _, outcome] => format!("board {outcome}"),
         ["point", _, _, place @ ("done" | "offered"), _] => format!("point {place}"),
+        ["point", _, _, "shut", _, kind @ ("ordinary" | "wait"), _, _, _] => {
+            format!("point shut, {kind}")
+        }
         ["point", _, _, place] => format!("point {place}"),
         [_, number, _, _] => format!("event {number}"),
         _ => format!("unknown line {line:?}"),
     }
+}
+
+/// The keys of the lines of a printing program: of each line by itself, and of a board's list with its outcome.
+fn printed_keys(text: &str) -> Vec<String> {
+    let mut keys = Vec::new();
+    let mut board = String::new();
+    for line in text.lines() {
+        let key = key(line);
+        if let Some(place) = key.strip_prefix("point ") {
+            let place = place.split(',').next().unwrap_or(place);
+            let told = matches!(
+                (&board[..], place),
+                ("board waiting" | "board stuck", "shut") | ("board stuck", "held")
+            );
+            if told {
+                keys.push(format!("{board}, a point {place}"));
+            }
+        }
+        if key.starts_with("board ") {
+            board.clone_from(&key);
+        }
+        // What is told of 28 is a 28.
+        if key.starts_with("event 28 ") {
+            keys.push("event 28".to_string());
+        }
+        keys.push(key);
+    }
+    keys
 }
 
 /// How often each came up in the lines of one program.
@@ -153,7 +228,7 @@ impl Count {
         let text = String::from_utf8_lossy(output);
         let keys = match name {
             "probe" => probe_keys(&text),
-            _ => text.lines().map(key).collect(),
+            _ => printed_keys(&text),
         };
         for key in keys {
             self.one(key);
@@ -203,11 +278,11 @@ pub fn print(names: &[&str], counts: &[Count]) -> (Vec<String>, Vec<String>) {
         rows.extend(new);
     }
     let head: String = names.iter().map(|name| format!("{name:>10}")).collect();
-    println!("{:<36}{head}", "");
+    println!("{:<40}{head}", "");
     for key in rows {
         let cell = |count: &Count| format!("{:>10}", count.of(&key));
         let row: String = counts.iter().map(cell).collect();
-        println!("{key:<36}{row}");
+        println!("{key:<40}{row}");
     }
     (missing, strange)
 }

@@ -205,6 +205,28 @@ pub fn hanging(draw: &mut Draw, plan: &Plan) -> Vec<u8> {
     bytes
 }
 
+/// An event at the clock's minute for each foreman's point that is not open, for each watched one and for each done one, in any
+/// order: unless the board is stuck or finished each gets 28.
+pub fn not_open(draw: &mut Draw, plan: &Plan, at: &Board) -> Vec<Record> {
+    let open = board::open_points(plan, at);
+    let others = (0..plan.points()).filter(|v| !open.contains(v));
+    let mut all: Vec<Record> = others.map(|v| record(at.clock, v as u8, 0)).collect();
+    draw.shuffle(&mut all);
+    all
+}
+
+/// A good run with such events before each of its own.
+pub fn told_why(draw: &mut Draw, plan: &Plan) -> Vec<u8> {
+    let mut at = Board::fresh();
+    let mut bytes = not_open(draw, plan, &at).concat();
+    while let Some(event) = good(draw, plan, &at, true) {
+        bytes.extend(event);
+        at = event::take(plan, &at, &event).1;
+        bytes.extend(not_open(draw, plan, &at).concat());
+    }
+    bytes
+}
+
 /// What a stream is made of.
 #[derive(Clone, Copy)]
 pub enum Style {

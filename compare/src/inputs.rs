@@ -51,7 +51,8 @@ pub fn batch(draw: &mut Draw, number: u64) -> Vec<Input> {
         9 => many_projections(draw),
         10..=11 => haul_runs(draw),
         12 => second_trucks(draw),
-        13..=16 => small_plans(draw),
+        13..=15 => small_plans(draw),
+        16 => barred_plans(draw),
         17..=18 => sized_plans(draw),
         19 => limits(draw),
         20..=21 => chains(draw),
@@ -155,6 +156,23 @@ fn small_plans(draw: &mut Draw) -> Vec<Input> {
     let hidden = !draw.one_in(4);
     let plan = plans::any(draw, sizes, scale, hidden);
     streams(draw, "small plan", &plan, 4)
+}
+
+/// Plans with much that keeps points shut, and runs in which every point that is not open is asked for.
+fn barred_plans(draw: &mut Draw) -> Vec<Input> {
+    let mut inputs = Vec::new();
+    for _ in 0..2 {
+        let plan = plans::barred(draw);
+        inputs.extend(streams(draw, "plan with much that shuts", &plan, 3));
+        let events = events::told_why(draw, &plan);
+        let what = "all that is not open is asked for";
+        inputs.push(input(what, joined(&plan.to_bytes(), &events)));
+    }
+    let plan = small_good(draw);
+    let events = events::told_why(draw, &plan);
+    let what = "all that is not open is asked for, of any plan";
+    inputs.push(input(what, joined(&plan.to_bytes(), &events)));
+    inputs
 }
 
 fn sized_plans(draw: &mut Draw) -> Vec<Input> {

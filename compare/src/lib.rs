@@ -18,6 +18,7 @@ pub mod printed;
 pub mod programs;
 pub mod requests;
 pub mod sheets;
+pub mod shut;
 pub mod smaller;
 pub mod soundness;
 pub mod texts;

@@ -89,7 +89,7 @@ fn played(plan: &Plan, events: &[u8]) -> Vec<&'static str> {
     }
     let mut at = Board::fresh();
     for record in events.chunks_exact(RECORD) {
-        let (number, next) = event::take(plan, &at, record);
+        let ((number, _), next) = event::take(plan, &at, record);
         let word = |at: usize| u32::from_le_bytes([0, 1, 2, 3].map(|place| record[at + place]));
         let set = word(8);
         let has = |point: usize| set >> point & 1 == 1;

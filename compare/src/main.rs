@@ -8,6 +8,7 @@ use compare::inputs::{self, Input};
 use compare::links;
 use compare::programs::{self, Both, Shown, Way};
 use compare::requests;
+use compare::shut;
 use compare::smaller;
 use compare::soundness;
 use std::io;
@@ -183,6 +184,14 @@ fn work(pairs: &[Both], shared: &Shared) -> io::Result<Option<Found>> {
                 } else {
                     links::of_input(&input.bytes)
                 };
+                // The printing program of document 01 tells nothing of why.
+                let why = match probe {
+                    true => shut::of_requests(&input.bytes),
+                    false if pairs.iter().any(|both| both.name == "offers") => {
+                        shut::of_input(&input.bytes)
+                    }
+                    false => Vec::new(),
+                };
                 for (both, count) in pairs.iter().zip(&mut counts) {
                     if !concerned(&both) {
                         continue;
@@ -199,7 +208,8 @@ fn work(pairs: &[Both], shared: &Shared) -> io::Result<Option<Found>> {
                         }));
                     }
                     count.add(&both.name, &ours.bytes);
-                    for key in &of_input {
+                    let told = both.name != "sheet";
+                    for key in of_input.iter().chain(why.iter().filter(|_| told)) {
                         count.one(key.to_string());
                     }
                 }

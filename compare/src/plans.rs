@@ -690,6 +690,46 @@ pub fn of_number(draw: &mut Draw, number: u64) -> Plan {
     }
 }
 
+/// A plan with much that keeps points shut: several records and waits on most of the foreman's points, some of d = 0 between
+/// them, in any order, and some of negative d from watched points, which shut nothing.
+pub fn barred(draw: &mut Draw) -> Plan {
+    let points = 4 + draw.below(9);
+    let most = draw.pick(&[points / 2, points, 3 * points]);
+    let mut sizes = Sizes {
+        points,
+        links: 1 + draw.below(4),
+        ordinary: draw.below(most),
+        waits: points + draw.below(2 * points),
+    };
+    if draw.one_in(5) {
+        sizes = Sizes::any(draw);
+        sizes.points = sizes.points.max(20);
+        sizes.links = sizes.links.max(1);
+        sizes.ordinary = sizes.ordinary.max(250);
+    }
+    let points = sizes.points;
+    let mut plan = roomy(draw, sizes);
+    let watched: Vec<bool> = (0..points).map(|point| plan.watched(point)).collect();
+    for record in &mut plan.ordinary {
+        let (from, to) = (watched[record.x], watched[record.y]);
+        if from && (to && draw.one_in(2) || draw.one_in(6)) {
+            record.d = -draw.edgy(1, 20);
+        } else if !from && record.d < 0 && draw.one_in(4) {
+            record.d = 0;
+        }
+    }
+    // One end after another: where the other has not come, the first may be done all the same.
+    for _ in 0..3 {
+        let [x, y] = [0; 2].map(|_| draw.pick(&plan.links).c);
+        if x != y && record_on(&mut plan, x, y).is_none() {
+            let d = -draw.edgy(1, 20);
+            let place = draw.below(plan.ordinary.len() + 1);
+            plan.ordinary.insert(place, Ordinary { x, d, y });
+        }
+    }
+    plan
+}
+
 /// A chain whose steps are long, in half of them some of a bounded length: the clock goes as far as it can go.
 pub fn chain(draw: &mut Draw) -> Plan {
     let points = 2 + draw.below(31);
@@ -739,15 +779,15 @@ pub fn stuck(draw: &mut Draw) -> Plan {
             });
         }
         _ => {
-            // Two free points after the watched one: its record to v puts High below zero.
+            // Two free points after the watched one: its record to the last puts High below zero, if that one has waited so long.
             plan.ponds.push(0);
             let x = draw.between(1, 5);
-            plan.links.push(Link {
-                a: v,
-                x,
-                y: x + draw.between(1, 5),
-                c: u,
-            });
+            let y = x + draw.between(1, 5);
+            plan.links.push(Link { a: v, x, y, c: u });
+            if draw.one_in(2) {
+                let (v, c) = (free + 2, u);
+                plan.waits.push(Wait { v, c, w: y });
+            }
             let d = draw.pick(&[-BOUND, -x - 20, -x - 1, -x, -x + 1]);
             plan.ordinary.push(Ordinary {
                 x: u,

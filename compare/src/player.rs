@@ -5,7 +5,7 @@
 use crate::draw::Draw;
 use crate::events::{record, Record};
 use crate::links::{self, STARTS};
-use crate::printed::{Board, Place, Reply};
+use crate::printed::{Board, Holder, Place, Reply};
 use oracle::plan::{Link, Plan};
 
 /// How the foreman chooses minutes, and how haulage chooses its ends, in one game.
@@ -84,11 +84,29 @@ impl Player<'_> {
         Some((point, Self::minute(draw, self.foreman, low, *latest)))
     }
 
-    /// The next event, none where neither side has a move.
-    pub fn next(&mut self, draw: &mut Draw, reply: &Reply) -> Option<Record> {
-        if *reply == Reply::Waiting {
+    /// Notes what the list says of shut points.
+    fn look(&mut self, reply: &Reply) {
+        let waiting = matches!(reply, Reply::Waiting { .. });
+        if waiting {
             self.met.push("nothing is open, a link runs");
         }
+        for place in reply.places().unwrap_or_default() {
+            let Place::Shut(Holder { listed, .. }) = place else {
+                continue;
+            };
+            self.met.push(match listed.split(' ').next() {
+                Some("wait") => "a wait keeps a point shut",
+                _ => "an ordinary record keeps a point shut",
+            });
+            if waiting {
+                self.met.push("nothing is open, and it is told why");
+            }
+        }
+    }
+
+    /// The next event, none where neither side has a move.
+    pub fn next(&mut self, draw: &mut Draw, reply: &Reply) -> Option<Record> {
+        self.look(reply);
         let chosen = self.choice(draw, reply);
         let running = self.running();
         let must_end = running.iter().map(|(link, a)| a + link.y).min();
@@ -179,23 +197,52 @@ impl Player<'_> {
             .filter(|point| done(point))
             .map(|&point| self.minutes[point]);
         let clock = minutes.clone().flatten().max().unwrap_or(0);
-        let places_fit = match &board.reply {
-            Reply::Offers { places, .. } => {
-                let fits = |(point, place)| self.place_fits(done(&point), point, place);
-                places.len() == all.len() && places.iter().copied().enumerate().all(fits)
+        let places_fit = match board.reply.places() {
+            Some(places) => {
+                let fits = |(point, place)| self.place_fits(events, point, place);
+                places.len() == all.len() && places.iter().enumerate().all(fits)
             }
-            _ => true,
+            None => true,
         };
         board.clock == clock && board.count == minutes.count() && places_fit
     }
 
-    fn place_fits(&self, done: bool, point: usize, place: Place) -> bool {
+    /// Does the list say of a point what was played in the first so many events?
+    fn place_fits(&self, events: usize, point: usize, place: &Place) -> bool {
+        let done = self.played_in[point] < events;
         let watched = self.plan.links.iter().any(|link| link.c == point);
         match place {
-            Place::Done(minute) => done && self.minutes[point] == Some(minute),
+            Place::Done(minute) => done && self.minutes[point] == Some(*minute),
             Place::Watched => !done && watched,
-            Place::Shut | Place::Held | Place::Offered(_) => !done && !watched,
+            Place::Shut(holder) => {
+                !done && !watched && self.holder(events, point).as_ref() == Some(holder)
+            }
+            Place::Held | Place::Offered(_) => {
+                !done && !watched && self.holder(events, point).is_none()
+            }
         }
+    }
+
+    /// The first record of the file that asks for something before this point that had not been played by then.
+    fn holder(&self, events: usize, point: usize) -> Option<Holder> {
+        let missing = |other: usize| self.played_in[other] >= events;
+        let mut number = self.plan.points() + self.plan.links.len();
+        for record in &self.plan.ordinary {
+            if record.x == point && record.d < 0 && missing(record.y) {
+                let listed = format!("ordinary {point} {} {}", record.d, record.y);
+                return Some(Holder { number, listed });
+            }
+            number += 1;
+        }
+        for wait in &self.plan.waits {
+            let link = self.plan.links.iter().find(|link| link.c == wait.c);
+            if wait.v == point && link.is_some_and(|link| missing(link.a)) {
+                let listed = format!("wait {point} {} {}", wait.c, wait.w);
+                return Some(Holder { number, listed });
+            }
+            number += 1;
+        }
+        None
     }
 
     /// The minutes of all points, once all have been played.

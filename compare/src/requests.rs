@@ -22,9 +22,10 @@ const READ: u8 = 22;
 const JUDGE: u8 = 23;
 pub const STREAM: u8 = 24;
 
-/// So many bounds of a list are judged, and so many numbers a stream's room has at most.
+/// So many bounds of a list are judged, so many numbers a stream's room has at most, and so many are said of one event.
 const LIST: usize = 4_096;
-const STREAM_ROOM: usize = 12_288;
+pub const STREAM_ROOM: usize = 12_288;
+pub const SAID: usize = 4;
 /// A count of records that is one too many.
 const PAST: u32 = ROOM as u32 + 1;
 
@@ -86,9 +87,9 @@ impl Requests {
     }
 }
 
-/// The batch of this number: every fourteen hold each kind.
+/// The batch of this number: every fifteen hold each kind.
 pub fn batch(draw: &mut Draw, number: u64) -> Vec<Input> {
-    match number % 14 {
+    match number % 15 {
         0..=1 => boards(draw, true),
         2..=3 => boards(draw, false),
         4 | 11 => any_plans(draw),
@@ -99,13 +100,14 @@ pub fn batch(draw: &mut Draw, number: u64) -> Vec<Input> {
         9 => streams(draw),
         10 | 12 => files(draw),
         13 => event_numbers(draw),
-        _ => unreachable!("a remainder of fourteen"),
+        14 => not_open(draw),
+        _ => unreachable!("a remainder of fifteen"),
     }
 }
 
 /// A plan that a file can hold.
 fn good_plan(draw: &mut Draw) -> Plan {
-    match draw.below(13) {
+    match draw.below(14) {
         0 => plans::haul(draw),
         1 => plans::passing(draw),
         2 => plans::chain(draw),
@@ -114,6 +116,7 @@ fn good_plan(draw: &mut Draw) -> Plan {
         8 => plans::any_ringed(draw),
         9 => plans::held(draw),
         10 => plans::trucks(draw, 8, false),
+        11 => plans::barred(draw),
         4 => {
             let sizes = Sizes::any(draw);
             plans::layered(draw, sizes, false)
@@ -597,6 +600,42 @@ fn boards(draw: &mut Draw, off: bool) -> Vec<Input> {
     inputs
 }
 
+/// Points that are not open, asked for one by one and in a stream.
+fn not_open(draw: &mut Draw) -> Vec<Input> {
+    let mut inputs = Vec::new();
+    for _ in 0..4 {
+        let plan = match draw.below(3) {
+            0 => good_plan(draw),
+            _ => plans::barred(draw),
+        };
+        let mut requests = Requests::default();
+        requests.plan(&plan);
+        for _ in 0..5 {
+            let at = match draw.below(3) {
+                0 => Board::fresh(),
+                1 => reached(draw, &plan),
+                _ => sound(draw, &plan),
+            };
+            requests.board(&at);
+            requests.call(REPLY);
+            let events = events::not_open(draw, &plan, &at);
+            for event in events.iter().take(8) {
+                requests.buffer(event, RECORD, 0);
+                requests.call(TAKE);
+            }
+            let bytes = events.concat();
+            requests.buffer(&bytes, bytes.len(), 0);
+            let room = SAID * events.len();
+            requests.ask(STREAM, [0; 3], [room as u32, 9, 0]);
+        }
+        inputs.push(Input {
+            what: "points that are not open".to_string(),
+            bytes: requests.0,
+        });
+    }
+    inputs
+}
+
 /// An event that fits the board, or nearly.
 fn event_for(draw: &mut Draw, plan: &Plan, at: &Board) -> events::Record {
     let sound = oracle::board::sound(plan, at);
@@ -906,12 +945,12 @@ fn streams(draw: &mut Draw) -> Vec<Input> {
             requests.board(&at);
             let fill = draw.pick(&[0, 255]);
             requests.buffer(&bytes, counts, fill);
-            let exact = 3 * (counts / RECORD);
+            let exact = SAID * (counts / RECORD);
             let room = match draw.below(8) {
                 0 => draw.below(exact + 1),
                 1 => exact.saturating_sub(1),
-                2 => exact + 1 + draw.below(4),
-                3 => draw.pick(&[0, 1, 2, 3, STREAM_ROOM, STREAM_ROOM + 1]),
+                2 => exact + 1 + draw.below(SAID),
+                3 => draw.pick(&[0, 1, 3, 4, 5, STREAM_ROOM, STREAM_ROOM + 1]),
                 _ => exact,
             };
             let held = draw.pick(&[0, 7, u32::MAX]);

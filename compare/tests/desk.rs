@@ -629,8 +629,8 @@ const CALENDARS: [(&str, Calendar); 30] = [
         let mut at = Board::fresh();
         let mut end = 16 * (mark + 1);
         for record in input[end..].chunks_exact(16) {
-            let (number, after) = event::take(&plan, &at, record);
-            if number != 0 {
+            let (refusal, after) = event::take(&plan, &at, record);
+            if refusal != (0, 0) {
                 break;
             }
             (at, end) = (after, end + 16);
@@ -1400,8 +1400,8 @@ fn run_otherwise(plan: &Plan, durations: &[i64], otherwise: Otherwise) -> Vec<[u
             _ => 0,
         };
         let event = compare::events::record(minute as u32, foreman, set);
-        let (number, after) = event::take(plan, &at, &event);
-        if number != 0 {
+        let (refusal, after) = event::take(plan, &at, &event);
+        if refusal != (0, 0) {
             break;
         }
         at = after;

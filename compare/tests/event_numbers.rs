@@ -23,7 +23,7 @@ fn events(call: &[u8], buffer: &[u8]) -> Vec<Vec<u8>> {
         17 => vec![buffer.to_vec()],
         24 => {
             let events = buffer.chunks_exact(RECORD).map(<[u8]>::to_vec);
-            events.take(room as usize / 3).collect()
+            events.take(room as usize / requests::SAID).collect()
         }
         _ => Vec::new(),
     }
@@ -76,7 +76,7 @@ fn answers(requests: &[u8], sound: Sound, number: Number) -> Vec<Answer> {
                     continue;
                 }
                 for event in events(request, &buffer[..counts]) {
-                    let (refused, mut after) = event::take(plan, &at, &event);
+                    let ((refused, _), mut after) = event::take(plan, &at, &event);
                     tried += 1;
                     if refused == 0 {
                         taken += 1;
@@ -105,7 +105,7 @@ fn right_number(board: &Board, _: u32, _: u32) -> u32 {
 }
 
 /// Batches until each kind has come some times.
-const BATCHES: u64 = 42;
+const BATCHES: u64 = 45;
 
 fn found(what: &str, sound_as: Sound, number: Number) {
     for batch in 0..BATCHES {

@@ -2,6 +2,7 @@
 
 use crate::plan::{Link, Plan, BOUND};
 use crate::Refusal;
+use std::collections::{BTreeMap, BTreeSet};
 
 /// Places on a board.
 pub const PLACES: usize = 32;
@@ -179,6 +180,39 @@ pub fn is_open(plan: &Plan, board: &Board, v: usize) -> bool {
         && on_v.all(|wait| board.is_done(plan.link_of(wait).a))
 }
 
+/// Why each point is shut (document 02): the numbers in the file of all records that keep it so. Every record that can shut a
+/// point is noted under what it waits for, the Y of an ordinary record with negative d or the A of a wait; what the done
+/// points were waited for is struck out, and what is left holds. A watched or done point is not held, nor is room past the plan.
+pub fn held_by(plan: &Plan, board: &Board) -> [BTreeSet<u32>; PLACES] {
+    let mut noted: BTreeMap<usize, Vec<(usize, u32)>> = BTreeMap::new();
+    let first = plan.points() + plan.links.len();
+    for (number, record) in (first..).zip(&plan.ordinary) {
+        if record.d < 0 {
+            let under = noted.entry(record.y).or_default();
+            under.push((record.x, number as u32));
+        }
+    }
+    for (number, wait) in (first + plan.ordinary.len()..).zip(&plan.waits) {
+        let under = noted.entry(plan.link_of(wait).a).or_default();
+        under.push((wait.v, number as u32));
+    }
+    for point in (0..PLACES).filter(|&point| board.is_done(point)) {
+        noted.remove(&point);
+    }
+    let mut held = [(); PLACES].map(|()| BTreeSet::new());
+    for (v, number) in noted.into_values().flatten() {
+        if !plan.watched(v) && !board.is_done(v) {
+            held[v].insert(number);
+        }
+    }
+    held
+}
+
+/// The record that a shut point of the plan is told: the first in file order of those that hold it.
+pub fn shut_by(plan: &Plan, board: &Board, v: usize) -> Option<u32> {
+    held_by(plan, board)[v].first().copied()
+}
+
 /// Low: the largest of 0, the clock, Y − d over records (v, d, Y) with Y done, and A + w over
 /// waits on v whose link is running.
 pub fn low(plan: &Plan, board: &Board, v: usize) -> i64 {
@@ -241,12 +275,16 @@ pub enum Outcome {
 pub enum Place {
     Done(i64),
     Watched,
-    Shut,
+    /// With the first record that keeps it so; room past the last point has none.
+    Shut(Option<u32>),
     Held,
     Offered(i64),
 }
 
-/// The reply to a sound board. Without an offer the latest is 0 and every place is shut.
+/// Every place shut, and nothing said of why: the list of a finished board and of a refusal.
+pub const NO_LIST: [Place; PLACES] = [Place::Shut(None); PLACES];
+
+/// The reply to a sound board. Without an offer the latest is 0; a finished board has no list.
 #[derive(Clone, Copy, PartialEq, Eq, Debug)]
 pub struct Reply {
     pub outcome: Outcome,
@@ -284,27 +322,27 @@ pub fn reply(plan: &Plan, board: &Board) -> Result<Reply, Refusal> {
     let mut reply = Reply {
         outcome,
         latest: 0,
-        places: [Place::Shut; PLACES],
+        places: NO_LIST,
     };
+    if outcome == Outcome::Finished {
+        return Ok(reply);
+    }
     if outcome == Outcome::Offers {
         reply.latest = latest(plan, board);
-        for point in 0..plan.points() {
-            reply.places[point] = place(plan, board, point, reply.latest);
-        }
+    }
+    let held = held_by(plan, board);
+    for (point, holders) in held.iter().enumerate().take(plan.points()) {
+        reply.places[point] = if board.is_done(point) {
+            Place::Done(board.minute(point))
+        } else if plan.watched(point) {
+            Place::Watched
+        } else if !is_open(plan, board, point) {
+            Place::Shut(holders.first().copied())
+        } else if outcome == Outcome::Offers && low(plan, board, point) <= reply.latest {
+            Place::Offered(low(plan, board, point))
+        } else {
+            Place::Held
+        };
     }
     Ok(reply)
-}
-
-fn place(plan: &Plan, board: &Board, point: usize, latest: i64) -> Place {
-    if board.is_done(point) {
-        Place::Done(board.minute(point))
-    } else if plan.watched(point) {
-        Place::Watched
-    } else if !is_open(plan, board, point) {
-        Place::Shut
-    } else if low(plan, board, point) > latest {
-        Place::Held
-    } else {
-        Place::Offered(low(plan, board, point))
-    }
 }

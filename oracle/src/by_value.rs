@@ -26,8 +26,8 @@ pub fn reply(raw: &RawPlan, board: &Board) -> Result<Reply, Refusal> {
 pub fn take(raw: &RawPlan, before: &Board, bytes: &[u8]) -> (u32, u32, Board) {
     match plan::check(raw) {
         Ok(plan) => {
-            let (number, after) = event::take(&plan, before, bytes);
-            (number, 0, after)
+            let ((number, record), after) = event::take(&plan, before, bytes);
+            (number, record, after)
         }
         Err((number, record)) => (number, record, *before),
     }

@@ -2,6 +2,7 @@
 
 use crate::board::{self, Board, Outcome, PLACES};
 use crate::plan::{unsigned, Plan, RECORD};
+use crate::Refusal;
 
 /// An event that is well formed for its plan.
 #[derive(Clone, Debug)]
@@ -11,11 +12,12 @@ struct Event {
     set: Vec<usize>,
 }
 
-/// Takes an event: 0 and the next board, or a number and the same board.
-pub fn take(plan: &Plan, before: &Board, bytes: &[u8]) -> (u32, Board) {
+/// Takes an event: (0, 0) and the next board, or a number with its record and the same board. Only 28 has a record, where the
+/// event's point is shut (document 02); beside the others it is 0.
+pub fn take(plan: &Plan, before: &Board, bytes: &[u8]) -> (Refusal, Board) {
     match judge_event(plan, before, bytes) {
-        Ok(event) => (0, mark(before, &event)),
-        Err(number) => (number, *before),
+        Ok(event) => ((0, 0), mark(before, &event)),
+        Err(refusal) => (refusal, *before),
     }
 }
 
@@ -54,20 +56,20 @@ fn parse(plan: &Plan, bytes: &[u8]) -> Result<Event, u32> {
 }
 
 /// Tests 20 to 30 in order. Every window is one of the board before the event.
-fn judge_event(plan: &Plan, before: &Board, bytes: &[u8]) -> Result<Event, u32> {
+fn judge_event(plan: &Plan, before: &Board, bytes: &[u8]) -> Result<Event, Refusal> {
     if !board::sound(plan, before) {
-        return Err(20);
+        return Err((20, 0));
     }
     if board::all_done(plan, before) {
-        return Err(21);
+        return Err((21, 0));
     }
     if board::outcome(plan, before) == Outcome::Stuck {
-        return Err(22);
+        return Err((22, 0));
     }
-    let event = parse(plan, bytes)?;
+    let event = parse(plan, bytes).map_err(|number| (number, 0))?;
     let minute = i64::from(event.minute);
     if minute < before.clock() {
-        return Err(24);
+        return Err((24, 0));
     }
     let running: Vec<_> = plan
         .links
@@ -76,32 +78,34 @@ fn judge_event(plan: &Plan, before: &Board, bytes: &[u8]) -> Result<Event, u32> 
         .collect();
     for point in &event.set {
         if running.iter().all(|link| link.c != *point) {
-            return Err(25);
+            return Err((25, 0));
         }
     }
     for link in running.iter().filter(|link| event.set.contains(&link.c)) {
         let duration = minute - before.minute(link.a);
         if duration < link.x || duration > link.y {
-            return Err(26);
+            return Err((26, 0));
         }
     }
     for link in running.iter().filter(|link| !event.set.contains(&link.c)) {
         if before.minute(link.a) + link.y < minute {
-            return Err(27);
+            return Err((27, 0));
         }
     }
     let open = board::open_points(plan, before);
     if let Some(point) = event.foreman {
         if !open.contains(&point) {
-            return Err(28);
+            // Watched and done points are held by nothing.
+            let record = board::shut_by(plan, before, point);
+            return Err((28, record.unwrap_or(0)));
         }
         if minute < board::low(plan, before, point) {
-            return Err(29);
+            return Err((29, 0));
         }
     }
     // With no foreman's point, 30 applies only where something is open.
     if !open.is_empty() && minute > board::latest(plan, before) {
-        return Err(30);
+        return Err((30, 0));
     }
     Ok(event)
 }

@@ -1,6 +1,6 @@
 //! The requests of compare/PROBE.md: calls with plans, boards, events and buffers of any content.
 
-use crate::board::{Board, Outcome, Place, PLACES};
+use crate::board::{Board, Outcome, Place, NO_LIST, PLACES};
 use crate::by_value;
 use crate::plan::{self, unsigned, RawPlan, RawRecord, RECORD, ROOM};
 use crate::plan_test::Answer;
@@ -15,7 +15,7 @@ const BOUND_BYTES: usize = 8;
 const LIST: usize = 4_096;
 /// A stream's room: the most numbers, and how many are said of one event.
 const STREAM_ROOM: usize = 12_288;
-const SAID: usize = 3;
+const SAID: usize = 4;
 const PRIME: u64 = 16_777_213;
 
 /// What the requests have put on the desk.
@@ -172,9 +172,8 @@ impl Desk {
             Err(_) => 0,
         };
         let sum = self.sum(latest);
-        let shut = [Place::Shut; PLACES];
         let (first, places) = match by_value::reply(&self.plan, &self.board) {
-            Err((number, record)) => ([16, number, record, sum], shut),
+            Err((number, record)) => ([16, number, record, sum], NO_LIST),
             Ok(reply) => {
                 let outcome = match reply.outcome {
                     Outcome::Finished => 101,
@@ -187,14 +186,14 @@ impl Desk {
         };
         let mut lines = vec![first];
         for (point, place) in (0..).zip(places) {
-            let (state, minute) = match place {
-                Place::Done(minute) => (1, minute),
+            let (state, with) = match place {
+                Place::Done(minute) => (1, minute as u32),
                 Place::Watched => (2, 0),
-                Place::Shut => (3, 0),
+                Place::Shut(record) => (3, record.unwrap_or(0)),
                 Place::Held => (4, 0),
-                Place::Offered(low) => (5, low),
+                Place::Offered(low) => (5, low as u32),
             };
-            lines.push([point, state, minute as u32, 0]);
+            lines.push([point, state, with, 0]);
         }
         lines
     }
@@ -248,9 +247,9 @@ impl Desk {
         if refusal.is_none() {
             let events = self.buffer[..self.counts].chunks_exact(RECORD);
             for (said, event) in room.chunks_exact_mut(SAID).zip(events) {
-                let (number, _, after) = by_value::take(&self.plan, &self.board, event);
+                let (number, record, after) = by_value::take(&self.plan, &self.board, event);
                 self.board = after;
-                said.copy_from_slice(&[number, after.clock, after.done]);
+                said.copy_from_slice(&[number, record, after.clock, after.done]);
             }
         }
         let (number, record) = refusal.unwrap_or((0, 0));

@@ -2,7 +2,7 @@
 
 use crate::board::{self, Board, Outcome, Place};
 use crate::event;
-use crate::plan::{self, Plan, RECORD, ROOM};
+use crate::plan::{self, Ordinary, Plan, Wait, RECORD, ROOM};
 use crate::plan_test::{self, Answer};
 use crate::verdict::{self, Verdict};
 use crate::Refusal;
@@ -94,10 +94,14 @@ fn run(input: &mut impl Read, output: &mut impl Write, full: bool) -> io::Result
         if record.len() < RECORD {
             break record;
         }
-        let (number, after) = event::take(&plan, &board, &record);
+        let ((number, why), after) = event::take(&plan, &board, &record);
         board = after;
         if full {
-            writeln!(output, "event {k} {number}")?;
+            // Record 0 is a point's, so that it never keeps anything shut.
+            match why {
+                0 => writeln!(output, "event {k} {number}")?,
+                _ => writeln!(output, "event {k} {number} {why}")?,
+            }
             print_board(&plan, &board, output)?;
         } else {
             writeln!(output, "{k} {number} {} {}", board.clock, board.count())?;
@@ -141,22 +145,34 @@ fn print_board(plan: &Plan, board: &Board, output: &mut impl Write) -> io::Resul
         Err((number, _)) => return writeln!(output, "refused {number}"),
     };
     match reply.outcome {
-        Outcome::Finished => writeln!(output, "finished"),
-        Outcome::Stuck => writeln!(output, "stuck"),
-        Outcome::Waiting => writeln!(output, "waiting"),
-        Outcome::Offers => {
-            writeln!(output, "offers {}", reply.latest)?;
-            for (point, (pond, place)) in plan.ponds.iter().zip(reply.places).enumerate() {
-                write!(output, "point {point} {pond} ")?;
-                match place {
-                    Place::Done(minute) => writeln!(output, "done {minute}")?,
-                    Place::Watched => writeln!(output, "watched")?,
-                    Place::Shut => writeln!(output, "shut")?,
-                    Place::Held => writeln!(output, "held")?,
-                    Place::Offered(low) => writeln!(output, "offered {low}")?,
-                }
-            }
-            Ok(())
+        Outcome::Finished => return writeln!(output, "finished"),
+        Outcome::Stuck => writeln!(output, "stuck")?,
+        Outcome::Waiting => writeln!(output, "waiting")?,
+        Outcome::Offers => writeln!(output, "offers {}", reply.latest)?,
+    }
+    for (point, (pond, place)) in plan.ponds.iter().zip(reply.places).enumerate() {
+        write!(output, "point {point} {pond} ")?;
+        match place {
+            Place::Done(minute) => writeln!(output, "done {minute}")?,
+            Place::Watched => writeln!(output, "watched")?,
+            Place::Shut(Some(why)) => writeln!(output, "shut {why} {}", listed(plan, why))?,
+            // Of a point of the plan something always keeps it shut; were there nothing, it would show.
+            Place::Shut(None) => writeln!(output, "shut")?,
+            Place::Held => writeln!(output, "held")?,
+            Place::Offered(low) => writeln!(output, "offered {low}")?,
+        }
+    }
+    Ok(())
+}
+
+/// An ordinary record or a wait, by its number in the file, as a listing has it.
+pub fn listed(plan: &Plan, number: u32) -> String {
+    let place = number as usize - plan.points() - plan.links.len();
+    match plan.ordinary.get(place) {
+        Some(Ordinary { x, d, y }) => format!("ordinary {x} {d} {y}"),
+        None => {
+            let Wait { v, c, w } = plan.waits[place - plan.ordinary.len()];
+            format!("wait {v} {c} {w}")
         }
     }
 }

@@ -376,7 +376,7 @@ fn events_against_an_executor() {
             }
             let expected = executor.least_number(&now, minute, foreman, set);
             let points: Vec<u8> = (0..32).filter(|i| set >> i & 1 == 1).collect();
-            let (number, next) = take(&plan, &now, &event(minute, foreman, &points));
+            let ((number, _), next) = take(&plan, &now, &event(minute, foreman, &points));
             assert_eq!(
                 number, expected,
                 "{plan:?} {now:?} {minute} {foreman} {set}"
@@ -437,8 +437,8 @@ fn the_reply_against_every_event() {
                         Place::Offered(low) => low <= minute && minute <= reply.latest,
                         _ => false,
                     };
-                    assert_eq!(taken.0 == 0, offered && minute <= run_out);
-                    if taken.0 == 0 {
+                    assert_eq!(taken.0 == (0, 0), offered && minute <= run_out);
+                    if taken.0 == (0, 0) {
                         accepted.push(taken.1);
                     }
                 }
@@ -456,7 +456,7 @@ fn the_reply_against_every_event() {
             for link in plan.links.iter().filter(|link| is_running(&now, link)) {
                 for minute in now.clock()..now.clock() + 8 {
                     let taken = take(&plan, &now, &event(minute as u32, NONE, &[link.c as u8]));
-                    if taken.0 == 0 {
+                    if taken.0 == (0, 0) {
                         accepted.push(taken.1);
                     }
                 }
@@ -538,7 +538,7 @@ fn one_run(plan: &Plan, random: &mut Random) {
         } else {
             ending.collect()
         };
-        let (number, next) = take(plan, &now, &event(minute as u32, foreman, &set));
+        let ((number, _), next) = take(plan, &now, &event(minute as u32, foreman, &set));
         assert_eq!(number, 0, "{plan:?} {now:?} {minute} {foreman} {set:?}");
         assert!(next.count() > now.count());
         now = next;

@@ -17,7 +17,7 @@ fn events_give_numbers() {
     let plan = four();
     let mut at = Board::fresh();
     let mut taken = |event: [u8; 16], wanted: u32, numbers: [u32; 4]| {
-        let (number, after) = take(&plan, &at, &event);
+        let ((number, _), after) = take(&plan, &at, &event);
         at = after;
         assert_eq!((number, &after.numbers[..4]), (wanted, &numbers[..]));
         assert!(sound(&plan, &after));
@@ -102,7 +102,7 @@ fn random_runs() {
         };
         let mut at = Board::fresh();
         for (number, event) in (1..).zip(&run.events) {
-            let (refused, after) = take(&plan, &at, event);
+            let ((refused, _), after) = take(&plan, &at, event);
             if refused != 0 {
                 break;
             }

@@ -2,7 +2,9 @@
 
 mod common;
 use common::*;
-use oracle::board::{high, is_open, latest, least_high, low, reply, Board, Outcome, Place};
+use oracle::board::{
+    high, is_open, latest, least_high, low, reply, Board, Outcome, Place, NO_LIST,
+};
 use oracle::plan_test::{edges, fault, plan_test, Answer, Fault};
 use oracle::verdict::{verdict, Verdict};
 
@@ -18,6 +20,9 @@ fn h_below_zero() {
     assert_eq!(latest(&plan, &now), -7);
     let reply = reply(&plan, &now).unwrap();
     assert_eq!((reply.outcome, reply.latest), (Outcome::Stuck, 0));
+    // The list has nothing below zero either (document 02).
+    let list = [Place::Done(0), Place::Done(3), Place::Held];
+    assert_eq!(reply.places[..3], list);
     assert_eq!(number(&plan, &now, &event(3, 2, &[])), 22);
 }
 
@@ -200,25 +205,25 @@ fn held_means_past_h() {
 }
 
 #[test]
-fn finished_stuck_and_waiting_carry_nothing() {
+fn finished_carries_nothing_and_waiting_a_list() {
     let plan = plan(
         3,
         &[link(0, 1, 5, 1), ordinary(2, -1, 1), ordinary(1, 3, 2)],
     );
-    let boards = [
-        (board(&[(0, 0)]), Outcome::Waiting),
-        (board(&[(0, 0), (1, 4), (2, 5)]), Outcome::Finished),
-    ];
-    for (board, outcome) in boards {
-        let reply = reply(&plan, &board).unwrap();
-        assert_eq!((reply.outcome, reply.latest), (outcome, 0));
-        assert!(reply.places.iter().all(|place| *place == Place::Shut));
-    }
+    let finished = reply(&plan, &board(&[(0, 0), (1, 4), (2, 5)])).unwrap();
+    assert_eq!((finished.outcome, finished.latest), (Outcome::Finished, 0));
+    assert_eq!(finished.places, NO_LIST);
+    // Document 02: the list of a waiting board is filled, and its latest stays 0.
+    let waiting = reply(&plan, &board(&[(0, 0)])).unwrap();
+    assert_eq!((waiting.outcome, waiting.latest), (Outcome::Waiting, 0));
+    let list = [Place::Done(0), Place::Watched, Place::Shut(Some(4))];
+    assert_eq!(waiting.places[..3], list);
+    assert_eq!(waiting.places[3..], NO_LIST[3..]);
     // A watched point that is done reads done; room past the last point reads shut.
     let offers = reply(&plan, &board(&[(0, 0), (1, 4)])).unwrap();
     assert_eq!(offers.places[1], Place::Done(4));
     assert_eq!(offers.places[2], Place::Offered(5));
-    assert!(offers.places[3..].iter().all(|place| *place == Place::Shut));
+    assert_eq!(offers.places[3..], NO_LIST[3..]);
 }
 
 #[test]

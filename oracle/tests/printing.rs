@@ -116,9 +116,12 @@ fn the_four_ends() {
     let stuck = plan(2, &[ordinary(0, -5, 1), ordinary(1, -5, 0)]);
     let one = input(&stuck, &[event(0, 0, &[])]);
     assert_eq!(sheet_of(&one), "0 22 0 0\nend stuck\n");
+    let list = "point 0 0 shut 2 ordinary 0 -5 1\npoint 1 0 shut 3 ordinary 1 -5 0\n";
     assert_eq!(
         offers_of(&one),
-        "test cycle 0\nboard 0 0 stuck\nevent 0 22\nboard 0 0 stuck\nend stuck\n"
+        format!(
+            "test cycle 0\nboard 0 0 stuck\n{list}event 0 22\nboard 0 0 stuck\n{list}end stuck\n"
+        )
     );
 }
 
@@ -139,15 +142,15 @@ fn offers_of_the_haul() {
 test yes 31
 board 0 0 offers 100000
 point 0 0 offered 0
-point 1 0 shut
+point 1 0 shut 5 ordinary 1 -10 0
 point 2 4294967295 watched
-point 3 20240131 shut
+point 3 20240131 shut 8 wait 3 2 35
 event 0 0
 board 0 1 offers 100000
 point 0 0 done 0
 point 1 0 offered 10
 point 2 4294967295 watched
-point 3 20240131 shut
+point 3 20240131 shut 8 wait 3 2 35
 event 1 0
 board 12 2 offers 100012
 point 0 0 done 0
@@ -198,7 +201,8 @@ fn held_and_waiting_are_printed() {
     assert!(text.contains(expected));
     let waiting = plan(2, &[link(0, 1, 5, 1)]);
     let text = offers_of(&input(&waiting, &[event(0, 0, &[])]));
-    assert!(text.ends_with("event 0 0\nboard 0 1 waiting\nend open\n"));
+    let list = "point 0 0 done 0\npoint 1 0 watched\n";
+    assert!(text.ends_with(&format!("event 0 0\nboard 0 1 waiting\n{list}end open\n")));
 }
 
 /// A reader that hands out one byte at a time, and is interrupted before each.

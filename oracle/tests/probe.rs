@@ -36,7 +36,7 @@ fn the_haul() {
     assert_eq!(lines[..3], ["19 0 0 0", "21 101 31 0", "16 104 100000 0"]);
     assert_eq!(
         lines[3..8],
-        ["0 5 0 0", "1 3 0 0", "2 2 0 0", "3 3 0 0", "4 3 0 0"]
+        ["0 5 0 0", "1 3 5 0", "2 2 0 0", "3 3 8 0", "4 3 0 0"]
     );
     assert_eq!(lines.len(), 3 + 32);
 }
@@ -132,7 +132,7 @@ fn a_stream() {
         let mut all = haul_on_the_desk();
         all.extend(request(5, [0; 3], [bytes, 0, 0]));
         all.extend(event(0, 0, 0, 0));
-        all.extend(event(1, 9, 1, 0));
+        all.extend(event(1, 9, 3, 0));
         all.extend(event(2, 12, 1, 0));
         all.extend(request(24, [0; 3], [room, 7, 0]));
         answers(&[all])
@@ -141,8 +141,9 @@ fn a_stream() {
         let mixed = |sum: u64, x: &u64| (sum * 251 + x + 1) % 16_777_213;
         numbers.iter().fold(0, mixed)
     };
-    let lines = streamed(48, 10);
-    let whole = sum(&[0, 0, 1, 29, 0, 1, 0, 12, 3, 7]);
+    // Of each event its number, the record beside it, the clock and the set: the wait, record 8, keeps 3 shut.
+    let lines = streamed(48, 13);
+    let whole = sum(&[0, 0, 0, 1, 28, 8, 0, 1, 0, 0, 12, 3, 7]);
     assert_eq!(
         lines[..3],
         [
@@ -153,13 +154,17 @@ fn a_stream() {
     );
     assert_eq!((&lines[10][..], lines.len()), ("1 2 0 0", 2 + 8 + 8));
     // Two events, since there is no room for a third, or no third one.
-    let lines = streamed(48, 8);
-    let short = sum(&[0, 0, 1, 29, 0, 1, 7, 7]);
+    let lines = streamed(48, 11);
+    let short = sum(&[0, 0, 0, 1, 28, 8, 0, 1, 7, 7, 7]);
     assert_eq!(
         lines[..2],
         [format!("24 0 0 {short}"), "24 0 1 0".to_string()]
     );
-    assert_eq!(streamed(47, 8), lines);
+    assert_eq!(streamed(47, 11), lines);
+    // 12,288 numbers at most, which is 3,072 events.
+    let most = 4 * 3_072;
+    assert_eq!(streamed(48, u32::MAX), streamed(48, most));
+    assert_ne!(streamed(48, most - 1), streamed(48, most));
 }
 
 #[test]

@@ -361,7 +361,7 @@ fn number_20_unsound_boards() {
     // Every call with a board answers 20, before 21 to 31.
     let bad = board(&[(0, 0), (1, 12), (2, 31), (3, 31)]);
     assert_eq!(reply(&plan, &bad), Err((20, 0)));
-    assert_eq!(take(&plan, &bad, &[]), (20, bad));
+    assert_eq!(take(&plan, &bad, &[]), ((20, 0), bad));
     assert_eq!(verdict(&plan, &bad), Err((20, 0)));
     assert_eq!(judge(&plan, &bad, &[]), Err((20, 0)));
 }

@@ -403,7 +403,7 @@ fn every_choice(plan: &Plan, at: &Board, events: usize, runs: &mut u64) {
             if foreman == NONE && set.is_empty() {
                 continue;
             }
-            let (number, next) = take(plan, at, &event(minute as u32, foreman, &set));
+            let ((number, _), next) = take(plan, at, &event(minute as u32, foreman, &set));
             // Where something is offered, haulage alone may come no later than the latest.
             if number == 30 && foreman == NONE && minute > of.latest {
                 assert_eq!(of.outcome, Outcome::Offers);
@@ -464,7 +464,7 @@ fn all_sheets_of_small_chains() {
                 }
                 events.extend(mine.iter().map(|&point| event(minute as u32, point, &[])));
                 for event in events {
-                    let (number, next) = take(&plan, &at, &event);
+                    let ((number, _), next) = take(&plan, &at, &event);
                     taken &= number == 0;
                     at = next;
                 }

@@ -2,7 +2,7 @@
 
 mod common;
 use common::*;
-use oracle::board::{reply, Board, Outcome, Place};
+use oracle::board::{reply, Board, Outcome, Place, NO_LIST};
 use oracle::plan::read;
 use oracle::plan_test::{distances, edges, plan_test, vee_distances, Answer};
 use oracle::text::sheet;
@@ -36,9 +36,15 @@ fn case_4_fresh() {
     let reply = reply(&haul(), &Board::fresh()).unwrap();
     assert_eq!(reply.outcome, Outcome::Offers);
     assert_eq!(reply.latest, 100_000);
-    let expected = [Place::Offered(0), Place::Shut, Place::Watched, Place::Shut];
+    // 1 is shut by its record to 0, and 3 by its wait (document 02): records 5 and 8.
+    let expected = [
+        Place::Offered(0),
+        Place::Shut(Some(5)),
+        Place::Watched,
+        Place::Shut(Some(8)),
+    ];
     assert_eq!(reply.places[..4], expected);
-    assert!(reply.places[4..].iter().all(|place| *place == Place::Shut));
+    assert_eq!(reply.places[4..], NO_LIST[4..]);
 }
 
 #[test]
@@ -99,7 +105,10 @@ fn case_9_after_the_drive() {
 fn case_10_stuck_when_fresh() {
     let plan = plan(2, &[ordinary(0, -5, 1), ordinary(1, -5, 0)]);
     let reply = reply(&plan, &Board::fresh()).unwrap();
-    assert_eq!(reply.outcome, Outcome::Stuck);
+    assert_eq!((reply.outcome, reply.latest), (Outcome::Stuck, 0));
+    // Each by its record to the other (document 02).
+    let shut = [Place::Shut(Some(2)), Place::Shut(Some(3))];
+    assert_eq!(reply.places[..2], shut);
     assert_eq!(plan_test(&plan), Ok(Answer::Cycle(0)));
 }
 

@@ -79,7 +79,7 @@ fn taken(plan: &Plan, durations: &[i64], run: &Run) {
         assert_eq!((i64::from(minute), foreman), due);
         let now = falls.iter().filter(|fall| fall.0 == due.0);
         assert_eq!(set, now.fold(0, |set, fall| set | 1 << fall.1));
-        let (number, after) = take(plan, &at, event);
+        let ((number, _), after) = take(plan, &at, event);
         assert_eq!(number, 0);
         at = after;
     }

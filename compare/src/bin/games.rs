@@ -7,12 +7,13 @@ use compare::events::MARK;
 use compare::links;
 use compare::plans;
 use compare::player::Player;
-use compare::printed::{self, Place, Printed, Reply};
+use compare::printed::{self, Holder, Place, Printed, Reply};
 use compare::programs;
 use compare::sheets;
 use oracle::board::{self, Board};
 use oracle::event;
 use oracle::plan::{Plan, BOUND};
+use oracle::text;
 use std::io;
 use std::process::ExitCode;
 use std::time::Instant;
@@ -23,7 +24,7 @@ const KEPT: &str = "compare/kept";
 const STEPWISE: u64 = 8;
 
 /// What must come up in a run of many games.
-const EXPECTED: [&str; 23] = [
+const EXPECTED: [&str; 26] = [
     "games from predicted replies",
     "games from printed replies",
     "with links",
@@ -40,6 +41,9 @@ const EXPECTED: [&str; 23] = [
     "the foreman takes the latest",
     "an open point is held",
     "nothing is open, a link runs",
+    "nothing is open, and it is told why",
+    "an ordinary record keeps a point shut",
+    "a wait keeps a point shut",
     "one link ends",
     "links end together",
     "links end with the foreman's point",
@@ -110,7 +114,7 @@ fn play(seed: u64, games: u64, words: &[String]) -> io::Result<bool> {
     let seconds = start.elapsed().as_secs_f64();
     println!("{games} games as promised, {points} points in {events} events, {seconds:.0} seconds");
     for key in EXPECTED {
-        println!("{key:<36}{:>10}", count.of(key));
+        println!("{key:<40}{:>10}", count.of(key));
     }
     let missing: Vec<_> = EXPECTED.iter().filter(|key| count.of(key) == 0).collect();
     for key in &missing {
@@ -156,24 +160,30 @@ fn predicted(
 
 /// The reply as it would be printed.
 fn reply(plan: &Plan, at: &Board) -> Reply {
-    let Ok(reply) = board::reply(plan, at) else {
-        return Reply::Stuck;
-    };
+    let reply = board::reply(plan, at).expect("a board that is played is sound");
     let place = |place: &board::Place| match *place {
         board::Place::Done(minute) => Place::Done(minute),
         board::Place::Watched => Place::Watched,
-        board::Place::Shut => Place::Shut,
+        board::Place::Shut(record) => {
+            let record = record.expect("something keeps it shut");
+            Place::Shut(Holder {
+                number: record as usize,
+                listed: text::listed(plan, record),
+            })
+        }
         board::Place::Held => Place::Held,
         board::Place::Offered(low) => Place::Offered(low),
     };
+    let latest = reply.latest;
+    let places = || reply.places[..plan.points()].iter().map(place).collect();
     match reply.outcome {
         board::Outcome::Finished => Reply::Finished,
-        board::Outcome::Stuck => Reply::Stuck,
-        board::Outcome::Waiting => Reply::Waiting,
-        board::Outcome::Offers => Reply::Offers {
-            latest: reply.latest,
-            places: reply.places[..plan.points()].iter().map(place).collect(),
-        },
+        board::Outcome::Stuck => Reply::Stuck { places: places() },
+        board::Outcome::Waiting => Reply::Waiting { places: places() },
+        board::Outcome::Offers => {
+            let places = places();
+            Reply::Offers { latest, places }
+        }
     }
 }
 
@@ -216,7 +226,7 @@ fn wrong(plan: &Plan, player: &Player, printed: &Printed) -> Option<String> {
         if board.number != 0 {
             return Some(format!("event {} gets number {}", k - 1, board.number));
         }
-        if board.reply == Reply::Stuck {
+        if matches!(board.reply, Reply::Stuck { .. }) {
             return Some(format!("stuck after {k} events"));
         }
         if board.clock > BOUND * plan.points() as i64 {

@@ -8,7 +8,7 @@ use compare::links;
 use compare::plans;
 use compare::printed::{self, Place, Reply};
 use compare::programs::{self, Both, Way};
-use compare::requests::{Requests, STREAM, VERDICT};
+use compare::requests::{Requests, SAID, STREAM, VERDICT};
 use compare::sheets::{self, Due, Event, Order, Sheet, EXPECTED};
 use oracle::board::Board;
 use oracle::plan::{Plan, RECORD};
@@ -102,7 +102,7 @@ fn play(pairs: &[Both], seed: u64, plans: u64) -> io::Result<bool> {
     let expected = EXPECTED.into_iter().chain([TRIED, TAKEN, CHAINED]);
     let expected: Vec<&str> = expected.filter(shown).collect();
     for key in &expected {
-        println!("{key:<36}{:>10}", count.of(key));
+        println!("{key:<40}{:>10}", count.of(key));
     }
     let missing: Vec<_> = expected.iter().filter(|key| count.of(key) == 0).collect();
     for key in &missing {
@@ -310,10 +310,11 @@ fn not_as_drawn(sheet: &Sheet, printed: &printed::Printed) -> Option<String> {
             _ => None,
         };
         let fits = match &board.reply {
-            Reply::Offers { places, .. } => places.iter().map(shown).eq(minutes.iter().copied()),
-            Reply::Waiting => true,
+            Reply::Offers { places, .. } | Reply::Waiting { places } => {
+                places.iter().map(shown).eq(minutes.iter().copied())
+            }
             Reply::Finished => k == sheet.events.len(),
-            Reply::Stuck => false,
+            Reply::Stuck { .. } => false,
         };
         if board.number != 0 || !fits || board.count != minutes.iter().flatten().count() {
             return Some(format!("after {k} events the board is not as drawn"));
@@ -341,7 +342,8 @@ fn finished(both: &Both, plan: &Plan, sheets: &[Sheet]) -> io::Result<Option<Wro
 /// Asks for the events in the buffer as a stream from the fresh board, and for the verdict.
 fn stream(requests: &mut Requests, events: &[Event]) {
     requests.board(&Board::fresh());
-    requests.ask(STREAM, [0; 3], [3 * events.len() as u32, 0, 0]);
+    let room = SAID * events.len();
+    requests.ask(STREAM, [0; 3], [room as u32, 0, 0]);
     requests.call(VERDICT);
 }
 

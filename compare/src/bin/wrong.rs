@@ -62,12 +62,12 @@ const ALL: &[Wrong] = &[
     wrong(
         "sheet",
         "windows are judged after the event's watched points",
-        "    if (v != 255 && !has(w.opens, v)) return 28;",
+        "    if (v != 255 && !has(w.opens, v)) return *why",
         "    board after = *b;
         after.done |= set;
         for (u32 rest = set; rest; rest &= rest - 1) after.minutes[__builtin_ctz(rest)] = minute;
         windows_of(p, &after, &l, &w);
-        if (v != 255 && !has(w.opens, v)) return 28;",
+        if (v != 255 && !has(w.opens, v)) return *why",
     ),
     wrong(
         "sheet",
@@ -78,8 +78,8 @@ const ALL: &[Wrong] = &[
     wrong(
         "sheet",
         "a watched point counts as open",
-        "& ~(l->watched | b->done | shut)",
-        "& ~(b->done | shut)",
+        "& ~(l->watched | b->done | w->shut)",
+        "& ~(b->done | w->shut)",
     ),
     wrong("sheet", "kinds may fall", "if (r->kind < s->kind) return 5;", ""),
     wrong(
@@ -276,14 +276,14 @@ const ALL: &[Wrong] = &[
     wrong(
         "probe",
         "the clock may be any",
-        "return b->clock <= FARTHEST * (u32)__builtin_popcount(b->done);",
-        "return true;",
+        "    if (b->clock > FARTHEST * (u32)__builtin_popcount(b->done)) return false;\n",
+        "",
     ),
     wrong(
         "probe",
         "the clock may not be the farthest",
-        "return b->clock <= FARTHEST * (u32)__builtin_popcount(b->done);",
-        "return b->clock < FARTHEST * (u32)__builtin_popcount(b->done) || b->clock == 0;",
+        "if (b->clock > FARTHEST * (u32)__builtin_popcount(b->done)) return false;",
+        "if (b->clock >= FARTHEST * (u32)__builtin_popcount(b->done) && b->clock) return false;",
     ),
     wrong(
         "sheet",
@@ -294,7 +294,7 @@ const ALL: &[Wrong] = &[
     wrong(
         "sheet",
         "a wait does not shut its point before A",
-        "if (!has(b->done, a)) shut |= 1u << r->a;\n            else if",
+        "if (!has(b->done, a)) shuts(w, r->a, i);\n            else if",
         "if",
     ),
     wrong(
@@ -312,8 +312,8 @@ const ALL: &[Wrong] = &[
     wrong(
         "sheet",
         "a running link unsticks a board",
-        "    return true;\n}\n\nstatic i64 latest_of",
-        "    return !any_running(p, b);\n}\n\nstatic i64 latest_of",
+        "    return true;\n}\n\n// The record for a point",
+        "    return !any_running(p, b);\n}\n\n// The record for a point",
     ),
     wrong(
         "sheet",
@@ -330,8 +330,8 @@ const ALL: &[Wrong] = &[
     wrong(
         "probe",
         "a Low at the latest is held",
-        "else if (w.lows[i] > latest)",
-        "else if (w.lows[i] >= latest)",
+        "|| w.lows[i] > latest)",
+        "|| w.lows[i] >= latest)",
     ),
     wrong(
         "probe",
@@ -360,8 +360,8 @@ const ALL: &[Wrong] = &[
     wrong(
         "sheet",
         "a refused event moves the clock",
-        "if (number) return (refusal){number, 0};",
-        "if (number) { if (number == 29) b->clock++; return (refusal){number, 0}; }",
+        "if (number) return (refusal){number, why};",
+        "if (number) { if (number == 29) b->clock++; return (refusal){number, why}; }",
     ),
     wrong(
         "probe",
@@ -408,14 +408,14 @@ const ALL: &[Wrong] = &[
     wrong(
         "probe",
         "a stream ends with its first refused event",
-        "said[2] = b->done;",
-        "said[2] = b->done;\n        if (said[0]) break;",
+        "said[3] = b->done;",
+        "said[3] = b->done;\n        if (said[0]) break;",
     ),
     wrong(
         "probe",
         "a stream says the board before an event",
-        "said[0] = take(p, b, events + RECORD * i, RECORD).number;\n        said[1] = b->clock;",
-        "said[1] = b->clock;\n        said[0] = take(p, b, events + RECORD * i, RECORD).number;",
+        "        refusal one = take(p, b, events + RECORD * i, RECORD);\n",
+        "        board before = *b;\n        refusal one = take(p, &before, events + RECORD * i, RECORD);\n        said[2] = b->clock, said[3] = b->done;\n        *b = before, said[0] = one.number, said[1] = one.place;\n        continue;\n",
     ),
     wrong(
         "probe",
@@ -488,8 +488,8 @@ const ALL: &[Wrong] = &[
     wrong(
         SHEETS,
         "the first minute may not be the farthest",
-        "return b->clock <= FARTHEST * (u32)__builtin_popcount(b->done);",
-        "return b->clock < FARTHEST * (u32)__builtin_popcount(b->done) || b->clock == 0;",
+        "if (b->clock > FARTHEST * (u32)__builtin_popcount(b->done)) return false;",
+        "if (b->clock >= FARTHEST * (u32)__builtin_popcount(b->done) && b->clock) return false;",
     ),
     wrong(
         SHEETS,
@@ -574,6 +574,208 @@ const ALL: &[Wrong] = &[
         "an event is numbered by how many points are done",
         "b->calls[__builtin_ctz(rest)] = call + 1;",
         "b->calls[__builtin_ctz(rest)] = (call ? __builtin_popcount(b->done) : 1);",
+    ),
+    // document 02, §6: what is open stays as it was, only what is told of it is wrong
+    wrong(
+        "probe",
+        "why: the last record that shuts a point",
+        "    if (w->firsts[v] == 0) w->firsts[v] = i;",
+        "    w->firsts[v] = i;",
+    ),
+    wrong(
+        "probe",
+        "why: waits before ordinary records",
+        "            if (!has(b->done, a)) shuts(w, r->a, i);\n",
+        "            if (!has(b->done, a)) {
+                u32 was = w->firsts[r->a];
+                w->shut |= 1u << r->a;
+                if (was == 0 || p->records[was].kind != WAIT) w->firsts[r->a] = i;
+            }\n",
+    ),
+    wrong(
+        "probe",
+        "why: a wait whose A is done",
+        "            if (!has(b->done, a)) shuts(w, r->a, i);\n",
+        "            if (w->firsts[r->a] == 0) w->firsts[r->a] = i;
+            if (!has(b->done, a)) shuts(w, r->a, i);\n",
+    ),
+    wrong(
+        "probe",
+        "why: a wait whose drive is under way",
+        "            if (!has(b->done, a)) shuts(w, r->a, i);\n",
+        "            if (!has(b->done, r->b) && w->firsts[r->a] == 0) w->firsts[r->a] = i;
+            if (!has(b->done, a)) shuts(w, r->a, i);\n",
+    ),
+    wrong(
+        "probe",
+        "why: a record to a point that is done",
+        "            if (has(b->done, r->b)) {\n                i64 low = (i64)b->minutes[r->b] - r->first;",
+        "            if (r->first < 0 && w->firsts[r->a] == 0) w->firsts[r->a] = i;
+            if (has(b->done, r->b)) {\n                i64 low = (i64)b->minutes[r->b] - r->first;",
+    ),
+    wrong(
+        "probe",
+        "why: a record with d = 0",
+        "            } else if (r->first < 0) shuts(w, r->a, i);\n",
+        "            } else if (r->first < 0) shuts(w, r->a, i);
+            else if (r->first == 0 && w->firsts[r->a] == 0) w->firsts[r->a] = i;\n",
+    ),
+    wrong(
+        "probe",
+        "why: counted without points and links",
+        "    w->opens = below(points_of(p)) & ~(l->watched | b->done | w->shut);",
+        "    w->opens = below(points_of(p)) & ~(l->watched | b->done | w->shut);
+    for (u32 v = 0; v < POINTS; v++)
+        if (w->firsts[v]) w->firsts[v] -= points_of(p) + __builtin_popcount(l->watched);",
+    ),
+    wrong(
+        "probe",
+        "why: counted within its kind",
+        "    w->opens = below(points_of(p)) & ~(l->watched | b->done | w->shut);",
+        "    w->opens = below(points_of(p)) & ~(l->watched | b->done | w->shut);
+    for (u32 v = 0; v < POINTS; v++) {
+        u32 first = w->firsts[v];
+        w->firsts[v] = 0;
+        for (u32 i = 0; i < first; i++) w->firsts[v] += p->records[i].kind == p->records[first].kind;
+    }",
+    ),
+    wrong(
+        "probe",
+        "why: counted from 1",
+        "has(l->watched | b->done, v) ? 0 : w->firsts[v];",
+        "has(l->watched | b->done, v) || w->firsts[v] == 0 ? 0 : w->firsts[v] + 1;",
+    ),
+    wrong(
+        "probe",
+        "why: a byte for the record",
+        "has(l->watched | b->done, v) ? 0 : w->firsts[v];",
+        "has(l->watched | b->done, v) ? 0 : (u8)w->firsts[v];",
+    ),
+    wrong(
+        "probe",
+        "why: none in a list",
+        "*at = (place){SHUT, why_shut(b, &l, &w, i)};",
+        "*at = (place){SHUT, 0};",
+    ),
+    wrong(
+        "probe",
+        "why: a waiting board's list is empty",
+        "else if (w.opens == 0) out->outcome = WAITING;",
+        "else if (w.opens == 0) {
+        out->outcome = WAITING;
+        return;
+    }",
+    ),
+    wrong(
+        "probe",
+        "why: a stuck board's list is empty",
+        "if (is_stuck(p, b, &w)) out->outcome = STUCK;",
+        "if (is_stuck(p, b, &w)) {
+        out->outcome = STUCK;
+        return;
+    }",
+    ),
+    wrong(
+        "probe",
+        "why: the list of a stuck board where nothing is open is empty",
+        "if (is_stuck(p, b, &w)) out->outcome = STUCK;",
+        "if (is_stuck(p, b, &w)) {
+        out->outcome = STUCK;
+        if (w.opens == 0) return;
+    }",
+    ),
+    wrong(
+        "probe",
+        "why: open points of a stuck board are offered",
+        "out->outcome == STUCK || w.lows[i] > latest)",
+        "out->outcome != STUCK && w.lows[i] > latest)",
+    ),
+    wrong(
+        "probe",
+        "why: open points of a stuck board are shut",
+        "        else if (out->outcome == STUCK || w.lows[i] > latest)",
+        "        else if (out->outcome == STUCK) *at = (place){SHUT, 0};\n        else if (w.lows[i] > latest)",
+    ),
+    wrong(
+        "probe",
+        "why: a stuck board has a latest",
+        "if (is_stuck(p, b, &w)) out->outcome = STUCK;",
+        "if (is_stuck(p, b, &w)) out->outcome = STUCK, out->latest = w.opens ? latest : 0;",
+    ),
+    wrong(
+        "probe",
+        "why: a stuck board has a latest where that is not below zero",
+        "if (is_stuck(p, b, &w)) out->outcome = STUCK;",
+        "if (is_stuck(p, b, &w)) out->outcome = STUCK, out->latest = w.opens && latest > 0 ? latest : 0;",
+    ),
+    wrong(
+        "probe",
+        "why: a waiting board has a latest",
+        "else if (w.opens == 0) out->outcome = WAITING;",
+        "else if (w.opens == 0) out->outcome = WAITING, out->latest = latest;",
+    ),
+    wrong(
+        "probe",
+        "why: a finished board has a list",
+        "    if (b->done == below(n)) return;\n",
+        "    if (b->done == below(n)) {
+        for (u32 i = 0; i < n; i++) out->places[i] = (place){DONE, b->minutes[i]};
+        return;
+    }\n",
+    ),
+    wrong(
+        "probe",
+        "why: 28 has no record",
+        "return *why = why_shut(b, &l, &w, v), 28;",
+        "return 28;",
+    ),
+    wrong(
+        "probe",
+        "why: 28 has a record for a watched point",
+        "return has(l->watched | b->done, v) ?",
+        "return has(b->done, v) ?",
+    ),
+    wrong(
+        "probe",
+        "why: 28 has a record for a done point",
+        "return has(l->watched | b->done, v) ?",
+        "return has(l->watched & ~b->done, v) ?",
+    ),
+    wrong(
+        "probe",
+        "why: 28 has the record of the board after the event's watched points",
+        "return *why = why_shut(b, &l, &w, v), 28;",
+        "{
+        board after = *b;
+        after.done |= set;
+        for (u32 rest = set; rest; rest &= rest - 1) after.minutes[__builtin_ctz(rest)] = minute;
+        windows_of(p, &after, &l, &w);
+        return *why = why_shut(b, &l, &w, v), 28;
+    }",
+    ),
+    wrong(
+        "probe",
+        "why: 29 has a record too",
+        "minute < w.lows[v]) return 29;",
+        "minute < w.lows[v]) return *why = points_of(p), 29;",
+    ),
+    wrong(
+        "probe",
+        "why: a stream says no record",
+        "said[0] = one.number, said[1] = one.place;",
+        "said[0] = one.number, said[1] = 0;",
+    ),
+    wrong(
+        "probe",
+        "why: a stream says the record in the last place",
+        "said[0] = one.number, said[1] = one.place;\n        said[2] = b->clock;\n        said[3] = b->done;",
+        "said[0] = one.number, said[3] = one.place;\n        said[1] = b->clock;\n        said[2] = b->done;",
+    ),
+    wrong(
+        "probe",
+        "why: a stream goes on where there is room for three numbers",
+        "SAID * (i + 1) <= numbers;",
+        "3 * (i + 1) <= numbers && SAID * (i + 1) <= STREAM_ROOM;",
     ),
 ];
 

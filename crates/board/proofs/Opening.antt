@@ -55,6 +55,7 @@ windows-here rs b w v =
       fits = v .fits;
       long = v .long;
       opens = v .opens;
+      holders = v .holders;
       lows = v .lows;
       high = v .high ∙ high-here rs b (v .highs) (v .high-by) (w .opens) (v .opens);
     }

@@ -15,7 +15,7 @@ use Rattle.plan.specs.APlan.{recordsOf}
 use Rattle.plan.specs.ReplyNumbers.{checkOf}
 use Rattle.plan.specs.declared.Plan.{Plan}
 use Rattle.board.specs.Boards.{sound}
-use Rattle.board.specs.Events.{taken, takeOf, eventSet, eventNumber, boardAfter}
+use Rattle.board.specs.Events.{taken, takeOf, eventSet, eventNumber, eventRecord, boardAfter}
 use Rattle.board.specs.Streams.{eventsIn, said, saidNumbers, saidOf, boardAfterAll, manyIn, takeAllOf, saidAllOf}
 use Rattle.board.specs.Inside.{takenNext}
 use Rattle.board.proofs.Theorems.Soundness.{HeldBoard}
@@ -35,7 +35,7 @@ unfolding takenNext
 next-sound p ok b held good s fits = go (eqb (eventNumber (recordsOf p) b s) 0) refl
   where
     go : (k : Bool) → eqb (eventNumber (recordsOf p) b s) 0 ≡ k
-        → sound (recordsOf p) ((if not k then taken (eventNumber (recordsOf p) b s) 0 b else taken 0 0 (boardAfter b s)) .board) ≡ true
+        → sound (recordsOf p) ((if not k then taken (eventNumber (recordsOf p) b s) (eventRecord (recordsOf p) b s) b else taken 0 0 (boardAfter b s)) .board) ≡ true
     go true e = event-sound p ok b held good s fits (eqb-true _ _ e)
     go false e = good
 

@@ -18,7 +18,8 @@ use Rattle.board.specs.Boards.{isDone, running}
 use Rattle.board.specs.Calls.{nextCall}
 use Rattle.board.specs.Windows.{isOpen, low, someOpen}
 use Rattle.board.specs.Stuck.{finished, stuck, latest}
-use Rattle.board.specs.Events.{eventMinute, eventPoint, eventSet, noPoint, wellFormed, endsRunning, inTime, eventNumber, boardAfter, taken}
+use Rattle.board.specs.Events.{eventMinute, eventPoint, eventSet, noPoint, wellFormed, endsRunning, inTime, eventNumber, eventRecord, boardAfter, taken}
+use Rattle.lowhigh.specs.Rules.{beside}
 use Rattle.links.specs.Inside.{LinksOf, runsAt, timelyAt, setNumber}
 use Rattle.events.specs.Inside.{eventIn}
 use Rattle.events.proofs.Forming.{formed-point}
@@ -88,7 +89,7 @@ module _ (rs : List Record) (b : Board) (s : List ℕ) where
           go true e = rw (point-same rs b w ws _ (eventMinute s) (eventPoint s) refl (formed-point (points rs) s e few)) (number-rest e)
 
 -- the number that the windows give
-module _ (rs : List Record) (b : Board) (s : List ℕ) (few : points rs ≤ mostPoints) (n : ℕ) (num : Numbered rs (b .clock) (b .done) (b .minutes) s n) where
+module _ (rs : List Record) (b : Board) (s : List ℕ) (few : points rs ≤ mostPoints) (n i : ℕ) (num : Numbered rs (b .clock) (b .done) (b .minutes) s n i) where
   by-stuck : finished rs b ≡ false → (w : Windows) → WindowsOf rs b w → (k : Bool) → stuck rs b ≡ k
       → (if k then 22 else laterNumber rs (b .clock) (b .done) (b .minutes) w s) ≡ eventNumber rs b s
   by-stuck f w ws true e = number-stuck rs b s f e
@@ -104,6 +105,9 @@ module _ (rs : List Record) (b : Board) (s : List ℕ) (few : points rs ≤ most
   pub number-here : n ≡ eventNumber rs b s
   number-here = by-finished (finished rs b) refl
 
+  pub record-here : i ≡ eventRecord rs b s
+  record-here = num .record-beside ∙ ap (λ (k : ℕ). beside rs (b .done) (eventPoint s) k) number-here
+
 -- an event of number 0 is well formed
 pub taken-formed : (rs : List Record) (b : Board) (s : List ℕ) → eventNumber rs b s ≡ 0 → wellFormed rs s ≡ true
 unfolding eventNumber
@@ -117,9 +121,10 @@ taken-formed rs b s = go (finished rs b) (stuck rs b) (wellFormed rs s) _
 
 -- what is taken, and what is refused
 module _ (rs : List Record) (b : Board) (s : List ℕ) where
-  pub next-refused : (eventNumber rs b s ≡ 0 → ⊥) → taken (eventNumber rs b s) 0 b ≡ takenNext rs b s
+  -- whatever the code has for the number and the record beside it
+  pub next-refused : (n i : ℕ) → n ≡ eventNumber rs b s → i ≡ eventRecord rs b s → (n ≡ 0 → ⊥) → taken n i b ≡ takenNext rs b s
   unfolding takenNext
-  next-refused h = rw (ne-eqb (eventNumber rs b s) 0 h)
+  next-refused n i e f h = rw (e, f) (rw (ne-eqb (eventNumber rs b s) 0 (λ z. h (e ∙ z))))
 
   -- whatever the code has for the next number
   pub next-taken : eventNumber rs b s ≡ 0 → (n : ℕ) → n ≡ nextCall b → taken 0 0 (afterEvent b (eventIn s) n) ≡ takenNext rs b s

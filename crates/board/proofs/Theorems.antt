@@ -6,3 +6,4 @@ pub mod Links
 pub mod Low
 pub mod Marks
 pub mod Taking
+pub mod Why

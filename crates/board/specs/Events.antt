@@ -1,5 +1,5 @@
--- Document 01, "Events": the sixteen bytes of an event, the numbers 21 to 30 in order, and the board after an event that
--- is taken. rs are the plan's records, b the board before the event, s the event's bytes. What the bytes say is said in
+-- Document 01, "Events", and document 02, §6: the sixteen bytes of an event, the numbers 21 to 30 in order, the record beside
+-- 28, and the board after an event that is taken. rs are the plan's records, b the board before the event, s the event's bytes. What the bytes say is said in
 -- `Fields` of `events`, and 25 to 27 by the done set and the minutes in `Ending` of `links` and `History` of `history`.
 -- Assumes nothing.
 use mathlib.Core.Bool.{Bool, not, _&&_, _||_}
@@ -14,6 +14,7 @@ use Rattle.plan.specs.ReplyNumbers.{checkOf}
 use Rattle.records.specs.declared.Record.{Record}
 use Rattle.plan.specs.declared.Plan.{Plan}
 use Rattle.history.specs.History as history
+use Rattle.lowhigh.specs.Rules as lowhigh
 use Rattle.links.specs.Ending as links
 use Rattle.events.specs.Fields as events
 pub use Rattle.events.specs.Fields.{eventMinute, eventPoint, noPoint, eventSet}
@@ -55,6 +56,11 @@ eventNumber rs b s =
     else if someOpen rs b && ltb (latest rs b) (eventMinute s) then 30
     else 0
 
+-- the record beside the number: beside 28 the one that keeps the event's point shut, none where the point is watched or done;
+-- none beside any other number
+abbrev pub eventRecord : List Record → Board → List ℕ → ℕ
+eventRecord rs b s = lowhigh.beside rs (b .done) (eventPoint s) (eventNumber rs b s)
+
 -- the points of an event
 abbrev pub eventPoints : List ℕ → List ℕ
 eventPoints s = membersOf (eventSet s) ++ (if eqb (eventPoint s) noPoint then [] else (eventPoint s ∷ []))
@@ -79,5 +85,5 @@ unfoldable pub takeOf : Plan → Board → List ℕ → Taken
 takeOf p b s =
     if not (eqb (checkOf p .number) 0) then taken (checkOf p .number) (checkOf p .place) b
     else if not (sound (recordsOf p) b) then taken 20 0 b
-    else if not (eqb (eventNumber (recordsOf p) b s) 0) then taken (eventNumber (recordsOf p) b s) 0 b
+    else if not (eqb (eventNumber (recordsOf p) b s) 0) then taken (eventNumber (recordsOf p) b s) (eventRecord (recordsOf p) b s) b
     else taken 0 0 (boardAfter b s)

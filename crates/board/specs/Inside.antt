@@ -10,7 +10,7 @@ use Rattle.records.specs.declared.Record.{Record}
 use Rattle.board.specs.Boards.{minute}
 use Rattle.board.specs.Windows.{isOpen, low, someOpen}
 use Rattle.board.specs.Stuck.{latest}
-use Rattle.board.specs.Events.{noPoint, markAll, eventNumber, boardAfter, taken}
+use Rattle.board.specs.Events.{noPoint, markAll, eventNumber, eventRecord, boardAfter, taken}
 use Rattle.board.specs.declared.Board.{Board}
 use Rattle.events.specs.declared.Event.{Event}
 use Rattle.board.specs.declared.Taken.{Taken}
@@ -26,7 +26,7 @@ pointNumber rs b t p =
 -- one event on a sound board of an accepted plan
 unfoldable pub takenNext : List Record → Board → List ℕ → Taken
 takenNext rs b s =
-    if not (eqb (eventNumber rs b s) 0) then taken (eventNumber rs b s) 0 b
+    if not (eqb (eventNumber rs b s) 0) then taken (eventNumber rs b s) (eventRecord rs b s) b
     else taken 0 0 (boardAfter b s)
 
 -- the board at the minute t

@@ -13,7 +13,7 @@ use Rattle.plan.specs.declared.Plan.{Plan}
 use Rattle.records.specs.declared.Record.{Record}
 use Rattle.board.specs.Boards.{sound}
 use Rattle.links.specs.Inside.{LinksOf}
-use Rattle.board.specs.Windows.{isOpen, low, H}
+use Rattle.board.specs.Windows.{isOpen, holder, low, H}
 use Rattle.board.specs.declared.Board.{Board}
 use Rattle.links.specs.declared.Links.{Links}
 use Rattle.windows.specs.declared.Windows.{Windows}
@@ -29,5 +29,6 @@ pub record WindowsOf (rs : List Record) (b : Board) (w : Windows) : Type 0 where
   pub fits : w .opens < 2 ^ 32
   pub long : length (w .lows) ≡ mostPoints
   pub opens : (q : ℕ) → q < mostPoints → member (w .opens) q ≡ isOpen rs b q
+  pub holders : (q : ℕ) → q < mostPoints → getD (w .holders) q 0 ≡ holder rs b q
   pub lows : (q : ℕ) → q < mostPoints → getD (w .lows) q 0 ≡ low rs b q
   pub high : w .high ≡ H rs b

@@ -4,6 +4,7 @@ pub mod Boards
 pub mod Windows
 pub mod Stuck
 pub mod Events
+pub mod Why
 pub mod Streams
 pub mod Inside
 pub mod InsideReplies

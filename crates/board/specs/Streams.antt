@@ -1,5 +1,6 @@
 -- A stream of events on one plan: each goes on from the board that the one before handed back. Document 01, "The printing
--- program", needs of each its number, and the clock and the done points of the board handed back. Assumes nothing.
+-- program", needs of each its number, and the clock and the done points of the board handed back; document 02, §6, the record
+-- beside the number. Assumes nothing.
 use mathlib.Core.Bool.{Bool, not}
 use mathlib.Core.List.{List, [], _∷_, _++_}
 use Prim.Native.Nat.{ℕ, zero, suc, _*_, _/_, min}
@@ -22,11 +23,11 @@ eventsIn (suc n) s = take recordBytes s ∷ eventsIn n (drop recordBytes s)
 
 -- what is said of one event
 abbrev pub said : Taken → List ℕ
-said t = t .number ∷ t .board .clock ∷ t .board .done ∷ []
+said t = t .number ∷ t .place ∷ t .board .clock ∷ t .board .done ∷ []
 
 -- how many numbers that is
 abbrev pub saidNumbers : ℕ
-saidNumbers = 3
+saidNumbers = 4
 
 -- what is said of each of some events, taken one after the other
 unfoldable pub saidOf : Plan → Board → List (List ℕ) → List ℕ

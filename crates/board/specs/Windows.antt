@@ -1,5 +1,5 @@
--- Document 01, "Board, windows, replies": the windows of a foreman's point q not yet done, from history: rs are the plan's
--- records, b the board. What a record says of q by the clock, the done set and the minutes is said in `Rules` of `lowhigh`.
+-- Document 01, "Board, windows, replies", and document 02, §6: the windows of a foreman's point q not yet done, from history: rs
+-- are the plan's records, b the board. What a record says of q by the clock, the done set and the minutes is said in `Rules` of `lowhigh`.
 -- High and H can be below zero, so both are kept 100,000 up; where there is none, they are past every minute. Assumes
 -- nothing.
 use mathlib.Core.Bool.{Bool, not, _||_}
@@ -12,7 +12,8 @@ use Rattle.plan.specs.Limits.{mostPoints, farthest}
 use Rattle.records.specs.declared.Record.{Record}
 use Rattle.lowhigh.specs.Rules as lowhigh
 pub use Rattle.lowhigh.specs.Rules.{never}
-unfoldable pub use Rattle.lowhigh.specs.Rules.{greatest, least}
+unfoldable pub use Rattle.lowhigh.specs.Rules.{placeFrom, greatest, least}
+use Rattle.plan.specs.declared.Found.{Found}
 use Rattle.board.specs.declared.Board.{Board}
 
 -- the record r keeps q shut: an ordinary one from q with negative d to a point not done, or a wait on q whose A is not
@@ -23,6 +24,14 @@ shuts rs b q r = lowhigh.shuts rs (b .done) q r
 -- q is a foreman's point not yet done
 abbrev pub foremans : List Record → Board → ℕ → Bool
 foremans rs b q = lowhigh.foremans rs (b .done) q
+
+-- the first record in file order that keeps q shut, if one does
+abbrev pub shutBy : List Record → Board → ℕ → Found
+shutBy rs b q = lowhigh.shutBy rs (b .done) q
+
+-- its number in the plan's file, and 0 for none: record 0 is always a point's
+abbrev pub holder : List Record → Board → ℕ → ℕ
+holder rs b q = lowhigh.holder rs (b .done) q
 
 -- open: no record keeps it shut
 abbrev pub isOpen : List Record → Board → ℕ → Bool

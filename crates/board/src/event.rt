@@ -1,11 +1,11 @@
-// Taking an event: the numbers 21 to 30 in order, and the board after it. An event's bytes may be any, of any length.
+// Taking an event: the numbers 21 to 30 in order, with the record beside 28, and the board after it. An event's bytes may be any, of any length.
 ghost use mathlib.Core.Path.{_≡_};
 ghost use mathlib.Core.List.{[], _∷_};
 ghost use mathlib.Core.Bool.{true};
 ghost use Rattle.points.specs.Sets.{membersOf};
 ghost use Rattle.plan.specs.APlan.{recordsOf};
 ghost use Rattle.board.specs.Boards.{sound};
-ghost use Rattle.board.specs.Events.{markAll, eventNumber, taken, takeOf};
+ghost use Rattle.board.specs.Events.{markAll, eventNumber, eventRecord, taken, takeOf};
 ghost use Rattle.board.specs.Inside.{clockAt, afterEvent, takenNext};
 ghost use Rattle.board.specs.InsideReplies.{Ready};
 use crate::Board;
@@ -20,6 +20,7 @@ use links::Links;
 use links::links_of;
 use plan::ACCEPTED;
 use plan::Plan;
+use plan::Refusal;
 use plan::check;
 use points::MOST;
 use points::first;
@@ -82,16 +83,18 @@ pub fn after(board: Board, e: Event, n: u32) -> Board
     }
 }
 
-// The number of an event on a sound board of an accepted plan. Windows are those of the board before the event.
-fn event_number(plan: Plan, board: Board, links: Links, event: &[u8]) -> u32
+// The number of an event on a sound board of an accepted plan, and the record beside it. Windows are those of the board before
+// the event.
+fn event_number(plan: Plan, board: Board, links: Links, event: &[u8]) -> Refusal
     requires { ⌜ Ready plan board links ⌝ }
-    ensures { λ n. ⌜ n ≡ eventNumber (recordsOf plan) board (now (event .entry)) ⌝ }
+    ensures number { λ r. ⌜ r .number ≡ eventNumber (recordsOf plan) board (now (event .entry)) ⌝ }
+    ensures place { λ r. ⌜ r .place ≡ eventRecord (recordsOf plan) board (now (event .entry)) ⌝ }
 {
     let minutes = board.minutes;
     windows::event_number(plan, links, board.clock, board.done, minutes, event)
 }
 
-pub(crate) fn answer(number: u32, place: u32, board: Board) -> Taken
+pub fn answer(number: u32, place: u32, board: Board) -> Taken
     ensures { λ t. ⌜ t ≡ taken number place board ⌝ }
 {
     Taken {
@@ -106,9 +109,9 @@ pub(crate) fn take_next(plan: Plan, board: Board, links: Links, event: &[u8]) ->
     requires { ⌜ Ready plan board links ⌝ }
     ensures { λ t. ⌜ (t ≡ takenNext (recordsOf plan) board (now (event .entry))) × (sound (recordsOf plan) (t .board) ≡ true) ⌝ }
 {
-    let number = event_number(plan, board, links, event);
-    if number != ACCEPTED {
-        return answer(number, 0, board);
+    let found = event_number(plan, board, links, event);
+    if found.number != ACCEPTED {
+        return answer(found.number, found.place, board);
     }
     let e = event_in(event);
     let calls = board.calls;

@@ -14,7 +14,7 @@ use crate::event::answer;
 use crate::event::take_next;
 use crate::sound::is_sound_with;
 use events::fewer;
-use events::put_three;
+use events::put_four;
 use links::Links;
 use links::links_of;
 use plan::ACCEPTED;
@@ -22,8 +22,8 @@ use plan::Plan;
 use plan::RECORD_BYTES;
 use plan::check;
 
-// What is said of an event: its number, and the clock and the done set of the board handed back.
-pub const SAID: usize = 3;
+// What is said of an event: its number, the record beside it, and the clock and the done set of the board handed back.
+pub const SAID: usize = 4;
 
 // The first n events on a sound board of an accepted plan.
 fn take_each(
@@ -44,7 +44,14 @@ fn take_each(
         let at = RECORD_BYTES * i;
         let taken = take_next(plan, now, links, &events[at..at + RECORD_BYTES]);
         now = taken.board;
-        put_three(room, SAID * i, taken.number, now.clock, now.done);
+        put_four(
+            room,
+            SAID * i,
+            taken.number,
+            taken.place,
+            now.clock,
+            now.done,
+        );
         i += 1;
     }
     now

@@ -3,7 +3,7 @@
 use mathlib.Core.Path.{refl}
 use lib.Count.{ones}
 use Rattle.points.specs.Sets.{member, membersOf, withOf, belowOf, subsetOf, from, every, passing}
-use Rattle.plan.specs.APlan.{howMany, some, firstThat}
+use Rattle.plan.specs.APlan.{howMany, some, firstThat, placeFrom}
 use Rattle.plan.specs.ReplyNumbers.{checkWith, firstBadWith, numberForWith, lastKind}
 use Rattle.board.specs.Calls.{numbered}
 use Rattle.board.specs.Boards.{sound, each, largest}
@@ -18,6 +18,6 @@ use Rattle.cases.specs.Starred.{table, Holds, leastWay}
 
 -- The table holds.
 pub starred : Holds table
-unfolding Holds leastWay ones replyOf takeOf eventNumber boardAfter markAll boardAfterAll sound numbered each largest stateOf outcomeOf greatest least leastHigh firstBroken endedOf verdictOf member membersOf withOf belowOf subsetOf from every passing howMany some firstThat checkWith firstBadWith numberForWith lastKind testOf testFrom judgeOf firstFrom passes atOnce listed arcs spans spread projections many
+unfolding Holds leastWay ones replyOf takeOf eventNumber boardAfter markAll boardAfterAll sound numbered each largest stateOf outcomeOf greatest least leastHigh firstBroken endedOf verdictOf member membersOf withOf belowOf subsetOf from every passing howMany some firstThat placeFrom checkWith firstBadWith numberForWith lastKind testOf testFrom judgeOf firstFrom passes atOnce listed arcs spans spread projections many
 starred =
-    (refl, (refl, (refl, (refl, (refl, (refl, (refl, (refl, (refl, (refl, (refl, (refl, (refl, (refl, (refl, (refl, (refl, (refl, (refl, (refl, (refl, (refl, (refl, (refl, (refl, (refl, tt))))))))))))))))))))))))))
+    (refl, (refl, (refl, (refl, (refl, (refl, (refl, (refl, (refl, (refl, (refl, (refl, (refl, (refl, (refl, (refl, (refl, (refl, (refl, (refl, (refl, (refl, (refl, (refl, (refl, (refl, (refl, (refl, (refl, (refl, (refl, tt)))))))))))))))))))))))))))))))

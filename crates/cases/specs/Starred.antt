@@ -32,13 +32,15 @@ use Rattle.vee.specs.declared.Answer.the-variants.{Yes, Pair, Cycle}
 -- ---- what can be asked, and what is said to it
 
 -- the test of a plan; how far below zero the shortest path of a projection is from X to Y, and the best of negative edges
--- followed by others; the reply to the board after some events; the number of one more event; and the verdict
+-- followed by others; the reply to the board after some events; the number of one more event, and the record beside it; and
+-- the verdict
 pub data Asked : Type 0 where
   test : Plan → Asked
   shortest : Plan → ℕ → ℕ → ℕ → Asked
   allowed : Plan → ℕ → ℕ → ℕ → Asked
   reply : Plan → List (List ℕ) → Asked
   event : Plan → List (List ℕ) → List ℕ → Asked
+  beside : Plan → List (List ℕ) → List ℕ → Asked
   verdict : Plan → List (List ℕ) → Asked
 
 pub data Said : Type 0 where
@@ -70,6 +72,7 @@ saidTo (allowed p i X Y) =
     belowZero (leastWay (falling n (edges p i)) (rising n (edges p i)) X Y n)
 saidTo (reply p es) = replied (replyOf p (boardAfterAll p fresh es))
 saidTo (event p es e) = number (takeOf p (boardAfterAll p fresh es) e .number)
+saidTo (beside p es e) = number (takeOf p (boardAfterAll p fresh es) e .place)
 saidTo (verdict p es) = judged (verdictOf p (boardAfterAll p fresh es))
 
 -- ---- how the table is written
@@ -96,9 +99,17 @@ abbrev pub places : List State → List Place
 places [] = []
 places (s ∷ ss) = record { state = s } ∷ places ss
 
+-- the list of a reply
+abbrev pub listed : List State → List Place
+listed ss = places ss ++ replicate (mostPoints - length ss) shut
+
+-- a stuck board with its points
+abbrev pub stuckAt : List State → Said
+stuckAt ss = replied (record { outcome = Stuck; latest = 0; places = listed ss })
+
 -- an offer with its latest and its points
 abbrev pub offers : ℕ → List State → Said
-offers t ss = replied (record { outcome = Offers; latest = t; places = places ss ++ replicate (mostPoints - length ss) shut })
+offers t ss = replied (record { outcome = Offers; latest = t; places = listed ss })
 
 pub record Row : Type 0 where
   pub asked : Asked
@@ -122,8 +133,8 @@ table =
     ∷ (test (planOf (haulWith (aWait 3 2 34 ∷ []))) gives answer (Pair 30 3 0))
     ∷ (shortest (planOf (haulWith (aWait 3 2 34 ∷ []))) 30 3 0 gives below 45)
     ∷ (allowed (planOf (haulWith (aWait 3 2 34 ∷ []))) 30 3 0 gives below 44)
-    -- 4. fresh: 0 offered from 0, latest 100,000; 1 and 3 shut
-    ∷ (reply haul [] gives offers 100000 (Offered 0 ∷ Shut ∷ Watched ∷ Shut ∷ []))
+    -- 4. fresh: 0 offered from 0, latest 100,000; 1 and 3 shut, by the record (1, −10, 0) and by the wait (document 02, §6)
+    ∷ (reply haul [] gives offers 100000 (Offered 0 ∷ Shut 5 ∷ Watched ∷ Shut 8 ∷ []))
     -- 5. 0 at 0, 1 at 12: 3 offered from 47, latest 100,012
     ∷ (event haul [] (at 0 0 0) gives number 0)
     ∷ (event haul (at 0 0 0 ∷ []) (at 12 1 0) gives number 0)
@@ -146,8 +157,14 @@ table =
     ∷ (reply haul arrived gives offers 45 (Done 0 ∷ Done 12 ∷ Done 40 ∷ Offered 40 ∷ []))
     ∷ (event haul arrived (at 46 3 0) gives number 30)
     -- 10. points 0, 1, records (0, −5, 1), (1, −5, 0): stuck when fresh; test says cycle at 0
-    ∷ (reply circle [] gives replied (bare Stuck))
+    ∷ (reply circle [] gives stuckAt (Shut 2 ∷ Shut 3 ∷ []))
     ∷ (test circle gives answer (Cycle 0))
+    -- document 02, §6: 28 names what keeps 3 shut, and nothing for a point that is watched or done
+    ∷ (event haul [] (at 0 3 0) gives number 28)
+    ∷ (beside haul [] (at 0 3 0) gives number 8)
+    ∷ (event haul left (at 20 2 0) gives number 28)
+    ∷ (beside haul left (at 20 2 0) gives number 0)
+    ∷ (beside haul left (at 20 1 0) gives number 0)
     ∷ []
 
 -- to each question of a table the rules say what the table says

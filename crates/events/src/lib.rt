@@ -71,14 +71,15 @@ fn put(room: &mut [u32], at: usize, x: u32)
     room[at] = x;
 }
 
-// Three numbers from a place on.
-pub fn put_three(room: &mut [u32], at: usize, x: u32, y: u32, z: u32)
-    requires { ⌜ at + 3 ≤ length (now room) ⌝ }
-    ensures { λ _. ⌜ now (room .exit) ≡ sets (now (room .entry)) at (x ∷ y ∷ z ∷ []) ⌝ }
+// Four numbers from a place on.
+pub fn put_four(room: &mut [u32], at: usize, x: u32, y: u32, z: u32, u: u32)
+    requires { ⌜ at + 4 ≤ length (now room) ⌝ }
+    ensures { λ _. ⌜ now (room .exit) ≡ sets (now (room .entry)) at (x ∷ y ∷ z ∷ u ∷ []) ⌝ }
 {
     put(room, at, x);
     put(room, at + 1, y);
     put(room, at + 2, z);
+    put(room, at + 3, u);
 }
 
 pub fn fewer(a: usize, b: usize) -> usize

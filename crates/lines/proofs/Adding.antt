@@ -13,12 +13,12 @@ use Rattle.lines.specs.Text.{room, lineOf, digits, decimal, spelled, let
 use Rattle.lines.specs.Inside.{textIn, Whole, with, RoomFor}
 use Rattle.lines.specs.declared.Line.{Line}
 use Rattle.lines.specs.declared.Piece.{Piece}
-use Rattle.lines.specs.declared.Piece.the-variants.{Name, Number}
+use Rattle.lines.specs.declared.Piece.the-variants.{Name, Number, Below}
 
-pub text-back : (ts : List ℕ) → textIn (lineOf ts) ≡ ts
+text-back : (ts : List ℕ) → textIn (lineOf ts) ≡ ts
 text-back ts = take-append-seam ts (replicate (room - length ts) 0)
 
-pub whole-line : (ts : List ℕ) → length ts ≤ room → Whole (lineOf ts)
+whole-line : (ts : List ℕ) → length ts ≤ room → Whole (lineOf ts)
 whole-line ts h = record { fits = rw (text-back ts) h; same = rw (text-back ts) }
 
 pub len-is : (l : Line) → Whole l → l .len ≡ length (textIn l)
@@ -37,9 +37,6 @@ byte-on ts b h =
 -- a byte more
 pub byte-more : (l : Line) (b : ℕ) → RoomFor l (b ∷ []) → stored l b ≡ with l (b ∷ [])
 byte-more l b r = ap (λ (k : Line). stored k b) (r .whole .same) ∙ byte-on (textIn l) b (omega (arith, r .fits))
-
-pub with-whole : (l : Line) (ts : List ℕ) → RoomFor l ts → Whole (with l ts)
-with-whole l ts r = whole-line (textIn l ++ ts) (rw (length-append (textIn l) ts) (r .fits))
 
 pub with-nothing : (l : Line) → Whole l → l ≡ with l []
 with-nothing l w = rw (append-nil (textIn l)) (w .same)
@@ -63,9 +60,6 @@ room-first l ts us r = record { whole = r .whole; fits = omega (arith, length-ap
 -- on a line that has the text ts
 pub fits-on : (ts us : List ℕ) → length ts + length us ≤ room → RoomFor (lineOf ts) us
 fits-on ts us h = record { whole = whole-line ts (omega arith); fits = rw (text-back ts) h }
-
-pub on : (l : Line) (ts us : List ℕ) → l ≡ lineOf ts → with l us ≡ lineOf (ts ++ us)
-on l ts us e = ap (λ (k : Line). with k us) e ∙ rw (text-back ts)
 
 -- ---- the digits of a number
 
@@ -93,18 +87,29 @@ one-digit n h = digits-one 19 n h
 pub more-digits : (n : ℕ) → 10 ≤ n → n < 2 ^ 64 → decimal n ≡ decimal (n / 10) ++ ((48 + n % 10) ∷ [])
 more-digits n h f = digits-more 19 n h ∙ ap (λ (ds : List ℕ). ds ++ ((48 + n % 10) ∷ [])) (digits-short 18 (n / 10) (omega arith))
 
+digit-more : (b : Bool) (ds : List ℕ) (d k : ℕ) → length ds ≤ k → length (cond b [] ds ++ (d ∷ [])) ≤ suc k
+digit-more true ds d k h = omega arith
+digit-more false ds d k h = omega (arith, length-append ds (d ∷ []))
+
 -- a number has at most twenty digits
 digits-few : (k n : ℕ) → length (digits k n) ≤ k
 unfolding digits
 digits-few zero n = omega arith
-digits-few (suc k) n = by-test (ltb n 10) (digits-few k (n / 10))
-  where
-    by-test : (b : Bool) → length (digits k (n / 10)) ≤ k → length (cond b [] (digits k (n / 10)) ++ ((48 + n % 10) ∷ [])) ≤ suc k
-    by-test true h = omega arith
-    by-test false h = omega (arith, length-append (digits k (n / 10)) ((48 + n % 10) ∷ []))
+digits-few (suc k) n = digit-more (ltb n 10) (digits k (n / 10)) (48 + n % 10) k (digits-few k (n / 10))
 
 pub few-digits : (n : ℕ) → length (decimal n) ≤ 20
 few-digits n = digits-few 20 n
+
+-- nor more than its size asks
+digits-fewer : (k m n : ℕ) → n < 10 ^ suc m → length (digits k n) ≤ suc m
+unfolding digits
+digits-fewer zero m n f = omega arith
+digits-fewer (suc k) zero n f = rw (lt-ltb n 10 f) (omega arith)
+digits-fewer (suc k) (suc m) n f = digit-more (ltb n 10) (digits k (n / 10)) (48 + n % 10) (suc m) (digits-fewer k m (n / 10) (omega arith))
+
+-- a number of thirty-two bits has at most ten digits
+pub ten-digits : (n : ℕ) → n < 2 ^ 32 → length (decimal n) ≤ 10
+ten-digits n f = digits-fewer 20 9 n (omega arith)
 
 -- ---- the letters of a word
 
@@ -133,39 +138,69 @@ spelled-few (suc k) w = by-test (eqb w 0) (spelled-few k (w / 256))
     by-test true h = omega arith
     by-test false h = omega arith
 
--- no piece is longer than twenty
-pub few-characters : (p : Piece) → length (pieceText p) ≤ 20
-few-characters (Name w) = omega (arith, spelled-few 8 w)
-few-characters (Number n) = few-digits n
+-- a word has at most eight letters
+pub few-letters : (w : ℕ) → length (letters w) ≤ 8
+few-letters w = spelled-few 8 w
 
--- ---- a whole line
+-- no piece is longer than twenty-one
+pub few-characters : (p : Piece) → length (pieceText p) ≤ 21
+few-characters (Name w) = omega (arith, few-letters w)
+few-characters (Number n) = omega (arith, few-digits n)
+few-characters (Below n) = omega (arith, few-digits n)
 
-few-more : (ps : List Piece) → length (moreText ps) ≤ 21 * length ps
+-- ---- pieces behind spaces
+
+pub more-pieces : (p : Piece) (ps : List Piece) (k n : ℕ) → length (pieceText p) ≤ k → length (moreText ps) ≤ n → length (moreText (p ∷ ps)) ≤ 1 + k + n
 unfolding moreText
-few-more [] = omega arith
-few-more (p ∷ ps) = omega (arith, length-append (32 ∷ pieceText p) (moreText ps), few-characters p, few-more ps)
+more-pieces p ps k n h m = omega (arith, length-append (32 ∷ pieceText p) (moreText ps))
+
+no-pieces : length (moreText []) ≤ 0
+unfolding moreText
+no-pieces = omega arith
+
+pub few-more : (ps : List Piece) → length (moreText ps) ≤ 22 * length ps
+few-more [] = no-pieces
+few-more (p ∷ ps) = omega (arith, more-pieces p ps 21 (22 * length ps) (few-characters p) (few-more ps))
 
 more-snoc : (ps : List Piece) (p : Piece) → moreText (ps ++ (p ∷ [])) ≡ moreText ps ++ (32 ∷ pieceText p)
 unfolding moreText
 more-snoc [] p = append-nil (32 ∷ pieceText p)
 more-snoc (q ∷ ps) p = rw (more-snoc ps p) (sym (append-assoc (32 ∷ pieceText q) (moreText ps) (32 ∷ pieceText p)))
 
--- the text of the first piece and i more
-abbrev pub sofar : Piece → List Piece → ℕ → List ℕ
-sofar first more i = pieceText first ++ moreText (take i more)
+pub more-after : (ps qs : List Piece) → moreText (ps ++ qs) ≡ moreText ps ++ moreText qs
+unfolding moreText
+more-after [] qs = refl
+more-after (p ∷ ps) qs = rw (more-after ps qs) (sym (append-assoc (32 ∷ pieceText p) (moreText ps) (moreText qs)))
 
-module _ (first : Piece) (more : List Piece) (i : ℕ) where
-  pub sofar-few : i ≤ length more → length (sofar first more i) ≤ 20 + 21 * i
-  sofar-few h =
-      omega (arith, length-append (pieceText first) (moreText (take i more)), few-characters first, few-more (take i more), length-take-le i more h)
+-- the text of fewer pieces is no longer
+more-longer : (ps : List Piece) (i n : ℕ) → i ≤ n → length (moreText (take i ps)) ≤ length (moreText (take n ps))
+unfolding moreText
+more-longer [] zero n h = omega arith
+more-longer [] (suc i) zero h = omega arith
+more-longer [] (suc i) (suc n) h = omega arith
+more-longer (p ∷ ps) zero n h = omega arith
+more-longer (p ∷ ps) (suc i) zero h = absurd (omega arith)
+more-longer (p ∷ ps) (suc i) (suc n) h =
+    omega (arith, length-append (32 ∷ pieceText p) (moreText (take i ps)), length-append (32 ∷ pieceText p) (moreText (take n ps)), more-longer ps i n (omega arith))
 
-  pub sofar-more : i < length more → (sofar first more i ++ (32 ∷ [])) ++ pieceText (getD more i (Name 0)) ≡ sofar first more (i + 1)
-  sofar-more h =
-      let p = getD more i (Name 0) in
-      rw (
-        add-one i,
-        take-suc more i (Name 0) h,
-        more-snoc (take i more) (getD more i (Name 0)),
-        append-assoc (sofar first more i) (32 ∷ []) (pieceText (getD more i (Name 0))),
-        append-assoc (pieceText first) (moreText (take i more)) (32 ∷ pieceText (getD more i (Name 0))),
-      )
+-- a line that gets n pieces, and has i of them so far
+module _ (l : Line) (ps : List Piece) (i n : ℕ) (h : i < n) (m : n ≤ length ps) where
+  one-more : moreText (take (i + 1) ps) ≡ moreText (take i ps) ++ ((32 ∷ []) ++ pieceText (getD ps i (Name 0)))
+  one-more = rw (add-one i, take-suc ps i (Name 0) (omega arith), more-snoc (take i ps) (getD ps i (Name 0)))
+
+  room-on : RoomFor l (moreText (take n ps)) → RoomFor (with l (moreText (take i ps))) ((32 ∷ []) ++ pieceText (getD ps i (Name 0)))
+  room-on r =
+      let few : RoomFor l (moreText (take (i + 1) ps)) = record { whole = r .whole; fits = omega (arith, r .fits, more-longer ps (i + 1) n (omega arith)) } in
+      room-after l (moreText (take i ps)) ((32 ∷ []) ++ pieceText (getD ps i (Name 0))) (rw one-more at few)
+
+  pub room-space : RoomFor l (moreText (take n ps)) → RoomFor (with l (moreText (take i ps))) (32 ∷ [])
+  room-space r = room-first (with l (moreText (take i ps))) (32 ∷ []) (pieceText (getD ps i (Name 0))) (room-on r)
+
+  pub room-piece : RoomFor l (moreText (take n ps)) → RoomFor (with (with l (moreText (take i ps))) (32 ∷ [])) (pieceText (getD ps i (Name 0)))
+  room-piece r = room-after (with l (moreText (take i ps))) (32 ∷ []) (pieceText (getD ps i (Name 0))) (room-on r)
+
+  pub with-one : with (with (with l (moreText (take i ps))) (32 ∷ [])) (pieceText (getD ps i (Name 0))) ≡ with l (moreText (take (i + 1) ps))
+  with-one =
+      with-with (with l (moreText (take i ps))) (32 ∷ []) (pieceText (getD ps i (Name 0)))
+      ∙ with-with l (moreText (take i ps)) ((32 ∷ []) ++ pieceText (getD ps i (Name 0)))
+      ∙ ap (λ (ts : List ℕ). with l ts) (sym one-more)

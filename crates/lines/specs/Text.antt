@@ -7,7 +7,7 @@ use lib.Dec.{eqb, ltb}
 use lib.ListN.{length, replicate}
 use Rattle.lines.specs.declared.Line.{Line}
 use Rattle.lines.specs.declared.Piece.{Piece}
-use Rattle.lines.specs.declared.Piece.the-variants.{Name, Number}
+use Rattle.lines.specs.declared.Piece.the-variants.{Name, Number, Below}
 
 -- how long a line may be
 abbrev pub room : ℕ
@@ -35,9 +35,11 @@ spelled (suc k) w = cond (eqb w 0) [] (w % 256 ∷ spelled k (w / 256))
 abbrev pub letters : ℕ → List ℕ
 letters w = spelled 8 w
 
+-- a piece: what is below zero has a minus sign
 abbrev pub pieceText : Piece → List ℕ
 pieceText (Name w) = letters w
 pieceText (Number n) = decimal n
+pieceText (Below n) = 45 ∷ decimal n
 
 -- pieces after the first, each behind a space
 unfoldable pub moreText : List Piece → List ℕ

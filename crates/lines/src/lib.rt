@@ -2,10 +2,10 @@
 // has a length, and room for the longest line, zero past its length. Document 01, "The printing program". An inner room of the
 // crates that print: `line_of` has a `requires`, which every caller is proved to meet.
 ghost use mathlib.Core.Path.{_≡_};
-ghost use mathlib.Core.List.{[], _∷_};
+ghost use mathlib.Core.List.{[], _∷_, _++_};
 ghost use Prim.Native.Nat.{_≤_};
 ghost use lib.ListN.{length, take};
-ghost use Rattle.lines.specs.Text.{lineOf, letters, decimal, pieceText, textOf};
+ghost use Rattle.lines.specs.Text.{room, lineOf, letters, decimal, pieceText, moreText, textOf};
 ghost use Rattle.lines.specs.Inside.{with, RoomFor};
 
 mod shapes;
@@ -16,14 +16,17 @@ pub use shapes::numbers;
 pub use shapes::pair;
 pub use shapes::state;
 pub use shapes::state_at;
+pub use shapes::state_by;
+pub use shapes::three;
 pub use shapes::two;
 pub use shapes::word;
 pub use shapes::words;
 
-// Room for a line: five pieces of at most twenty characters, and what stands between them.
+// Room for a line: five pieces of at most twenty-one characters, or nine of which three are words and three are numbers of
+// thirty-two bits, and what stands between them.
 pub const ROOM: usize = 128;
 
-// How many pieces may follow the first.
+// How many pieces are handed on at once.
 const MORE: usize = 4;
 
 pub struct Line {
@@ -31,9 +34,11 @@ pub struct Line {
     pub bytes: [u8; ROOM],
 }
 
+// A word; a number; so much below zero.
 pub enum Piece {
     Name(u64),
     Number(u64),
+    Below(u64),
 }
 
 // An empty line.
@@ -90,20 +95,40 @@ fn with_piece(line: Line, piece: Piece) -> Line
     match piece {
         Piece::Name(word) => with_word(line, word),
         Piece::Number(n) => with_number(line, n),
+        Piece::Below(n) => with_number(with_byte(line, 45), n),
     }
 }
 
-// A whole line: a piece, and `count` more behind spaces.
+// The line with `count` pieces more, each behind a space.
+fn with_more(line: Line, more: [Piece; MORE], count: usize) -> Line
+    requires { ⌜ (count ≤ 4) × RoomFor line (moreText (take count more)) ⌝ }
+    ensures { λ l. ⌜ l ≡ with line (moreText (take count more)) ⌝ }
+{
+    let mut next = line;
+    let mut i: usize = 0;
+    while i < count {
+        let piece = more[i];
+        next = with_piece(with_byte(next, 32), piece);
+        i += 1;
+    }
+    next
+}
+
+// A whole line: a piece, and `count` more.
 pub(crate) fn line_of(first: Piece, more: [Piece; MORE], count: usize) -> Line
     requires { ⌜ count ≤ 4 ⌝ }
     ensures { λ l. ⌜ l ≡ lineOf (textOf first (take count more)) ⌝ }
 {
-    let mut line = with_piece(blank(), first);
-    let mut i: usize = 0;
-    while i < count {
-        let piece = more[i];
-        line = with_piece(with_byte(line, 32), piece);
-        i += 1;
-    }
+    let line = with_more(with_piece(blank(), first), more, count);
     with_byte(line, 10)
+}
+
+// A whole line of nine pieces.
+pub(crate) fn long_line(first: Piece, more: [Piece; MORE], rest: [Piece; MORE]) -> Line
+    requires { ⌜ length (textOf first (more ++ rest)) ≤ room ⌝ }
+    ensures { λ l. ⌜ l ≡ lineOf (textOf first (more ++ rest)) ⌝ }
+{
+    let front = with_more(with_piece(blank(), first), more, MORE);
+    let whole = with_more(front, rest, MORE);
+    with_byte(whole, 10)
 }

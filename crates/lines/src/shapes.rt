@@ -7,6 +7,7 @@ ghost use Rattle.lines.specs.declared.Piece.the-variants.{Name, Number};
 use crate::Line;
 use crate::Piece;
 use crate::line_of;
+use crate::long_line;
 
 // A word alone.
 pub fn word(word: u64) -> Line
@@ -72,6 +73,22 @@ pub fn numbers(word: u64, a: u64, b: u64) -> Line
     )
 }
 
+// A word and three numbers.
+pub fn three(word: u64, a: u64, b: u32, c: u32) -> Line
+    ensures { λ l. ⌜ l ≡ said (Name word) (Number a ∷ Number b ∷ Number c ∷ []) ⌝ }
+{
+    line_of(
+        Piece::Name(word),
+        [
+            Piece::Number(a),
+            Piece::Number(b as u64),
+            Piece::Number(c as u64),
+            Piece::Name(0),
+        ],
+        3,
+    )
+}
+
 // Two words and a number.
 pub fn words(word: u64, what: u64, n: u32) -> Line
     ensures { λ l. ⌜ l ≡ said (Name word) (Name what ∷ Number n ∷ []) ⌝ }
@@ -133,6 +150,32 @@ pub fn state_at(word: u64, a: u32, b: u32, what: u64, n: u32) -> Line
             Piece::Number(n as u64),
         ],
         4,
+    )
+}
+
+// A word, two numbers, what they are, a number of that, and what it is for: a word and three pieces.
+pub fn state_by(
+    word: u64,
+    a: u32,
+    b: u32,
+    what: u64,
+    n: u32,
+    kind: u64,
+    x: Piece,
+    y: Piece,
+    z: Piece,
+) -> Line
+    ensures { λ l. ⌜ l ≡ said (Name word) (Number a ∷ Number b ∷ Name what ∷ Number n ∷ Name kind ∷ x ∷ y ∷ z ∷ []) ⌝ }
+{
+    long_line(
+        Piece::Name(word),
+        [
+            Piece::Number(a as u64),
+            Piece::Number(b as u64),
+            Piece::Name(what),
+            Piece::Number(n as u64),
+        ],
+        [Piece::Name(kind), x, y, z],
     )
 }
 

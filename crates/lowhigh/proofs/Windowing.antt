@@ -8,7 +8,7 @@ use native.Mathlib.Omega.{arith}
 use native.Mathlib.Decide.{ℕ-discrete}
 use borrow.Author.Tests.{eqb-true, eq-eqb, ne-eqb}
 use lib.Dec.{eqb, ltb}
-use lib.ListN.{length, take, getD, set, replicate, length-set, length-replicate, getD-replicate}
+use lib.ListN.{length, take, getD, set, replicate, length-set, length-take, length-replicate, getD-replicate}
 use lib.Seq.{getD-set-same, getD-set-other}
 use Rattle.points.specs.Sets.{member, withOf}
 use Rattle.points.proofs.Laws.{member-empty, member-small, member-with, with-fits}
@@ -17,11 +17,12 @@ use Rattle.plan.specs.Limits.{mostPoints}
 use Rattle.plan.specs.APlan.{link, ordinary, wait, is, some, watched, endsAt, linkTo, gapOf, blank}
 use Rattle.records.specs.declared.Record.{Record}
 use Rattle.history.specs.History.{minuteIn}
-use Rattle.lowhigh.specs.Rules.{shuts, earliest, greatest, bound, least, never}
+use Rattle.lowhigh.specs.Rules.{shuts, placeFrom, numberAt, earliest, greatest, bound, least, never}
 use Rattle.links.specs.Inside.{noEnd, endOf, LinksOf}
-use Rattle.lowhigh.specs.Inside.{saysOf, TablesOf}
+use Rattle.lowhigh.specs.Inside.{saysOf, held, TablesOf}
 use Rattle.plan.proofs.Records.{some-snoc, one-more}
 use Rattle.links.proofs.Linking.{runs-to}
+use Rattle.lowhigh.proofs.Firsts.{place-snoc, no-place}
 use Rattle.links.specs.declared.End.{End}
 use Rattle.links.specs.declared.Links.{Links}
 use Rattle.lowhigh.specs.declared.Said.{Said}
@@ -88,6 +89,24 @@ put-shut so s p q h = go so h (ℕ-discrete q p)
     go true h (no n) = rw (member-with s p q (h refl), ne-eqb q p n, ne-eqb p q (λ e. n (sym e)))
     go false h (yes e) = rw (e, eq-eqb p p refl)
     go false h (no n) = rw (ne-eqb p q (λ e. n (sym e)))
+
+put-held : (t : List ℕ) (p q v : ℕ) (c : Bool) → p < length t
+    → getD (set t p (if c then v else getD t p 0)) q 0 ≡ (if eqb p q && c then v else getD t q 0)
+put-held t p q v c h = go (ℕ-discrete q p)
+  where
+    go : Dec (q ≡ p) → getD (set t p (if c then v else getD t p 0)) q 0 ≡ (if eqb p q && c then v else getD t q 0)
+    go (yes e) = rw (e, eq-eqb p p refl, getD-set-same t p (if c then v else getD t p 0) 0 h)
+    go (no n) = rw (getD-set-other t p q (if c then v else getD t p 0) 0 n, ne-eqb p q (λ e. n (sym e)))
+
+-- the first record that keeps a point shut: an earlier one, or else the one that is heard
+first-held : (e so earlier : Bool) (v old : ℕ) → (earlier ≡ false → old ≡ 0)
+    → (if e && (so && not earlier) then v else old) ≡ (if earlier then old else if e && so then v else 0)
+first-held true true true v old f = refl
+first-held true true false v old f = refl
+first-held true false true v old f = refl
+first-held true false false v old f = f refl
+first-held false so true v old f = refl
+first-held false so false v old f = f refl
 
 -- ---- what a record says of its points is what the rules say of any
 
@@ -195,14 +214,38 @@ module _ (rs : List Record) (done : ℕ) (minutes : List ℕ) (fits : done < 2 ^
       (λ o w. let k : _≡_ {A = Bool} false true = rw (o, w) at h in absurd (let z : _≡_ {A = ℕ} 0 1 = cc in omega arith))
 
   -- with r the tables hold what one record more says
-  module _ (xs : List Record) (shut : ℕ) (lows highs : List ℕ) (clock : ℕ) (t : TablesOf rs xs clock done minutes shut lows highs) where
-    pub tables-more : TablesOf rs (xs ++ (r ∷ [])) clock done minutes (if said .shuts then withOf shut (r .a) else shut) (set lows p (max (getD lows p 0) (said .low))) (set highs q (min (getD highs q 0) (said .high)))
+  module _ (xs : List Record) (shut : ℕ) (holders lows highs : List ℕ) (clock : ℕ) (t : TablesOf rs xs clock done minutes shut holders lows highs) (i : ℕ) (place : length xs ≡ i) where
+    -- r is the first that keeps v shut where it does and none before it did
+    first-shut : (v : ℕ) → v < mostPoints → (eqb p v && (said .shuts && not (member shut (r .a)))) ≡ (eqb (r .a) v && (said .shuts && not (some (shuts rs done v) xs)))
+    first-shut v h = go (said .shuts) refl (ℕ-discrete v (r .a))
+      where
+        none : (a b x y : Bool) → (a && (false && x)) ≡ (b && (false && y))
+        none true true x y = refl
+        none true false x y = refl
+        none false true x y = refl
+        none false false x y = refl
+
+        go : (so : Bool) → said .shuts ≡ so → Dec (v ≡ r .a) → (eqb p v && (so && not (member shut (r .a)))) ≡ (eqb (r .a) v && (so && not (some (shuts rs done v) xs)))
+        go false e d = none (eqb p v) (eqb (r .a) v) (not (member shut (r .a))) (not (some (shuts rs done v) xs))
+        go true e (yes f) = let z : p ≡ r .a = omega (arith, shuts-place e) in rw (z, ← (t .shut-by v h), f)
+        go true e (no n) = let z : p ≡ r .a = omega (arith, shuts-place e) in rw (z, ne-eqb (r .a) v (λ f. n (sym f)))
+
+    pub held-more : (v : ℕ) → v < mostPoints → getD (held holders shut (r .a) (said .shuts) i) v 0 ≡ numberAt (placeFrom 0 (shuts rs done v) (xs ++ (r ∷ [])))
+    held-more v h =
+        let z : 0 + length xs ≡ i = omega (arith, place) in
+        put-held holders p v i (said .shuts && not (member shut (r .a))) (omega (arith, t .long-holders))
+        ∙ rw (first-shut v h, t .held-by v h, place-snoc 0 (shuts rs done v) xs r, z, shuts-said v)
+        (first-held (eqb (r .a) v) (said .shuts) (some (shuts rs done v) xs) i _ (λ f. ap numberAt (no-place 0 (shuts rs done v) xs f)))
+
+    pub tables-more : TablesOf rs (xs ++ (r ∷ [])) clock done minutes (if said .shuts then withOf shut (r .a) else shut) (held holders shut (r .a) (said .shuts) i) (set lows p (max (getD lows p 0) (said .low))) (set highs q (min (getD highs q 0) (said .high)))
     tables-more =
         record {
           fits = put-fits (said .shuts);
+          long-holders = simp length-set (t .long-holders);
           long-lows = simp length-set (t .long-lows);
           long-highs = simp length-set (t .long-highs);
           shut-by = λ v h. rw (some-snoc (shuts rs done v) xs r, put-shut (said .shuts) shut (r .a) v shuts-place, shuts-said v, t .shut-by v h);
+          held-by = held-more;
           low-by = λ v h.
               rw (greatest-snoc (earliest rs done minutes v) xs r, put-low lows p v (said .low) (omega (arith, t .long-lows)), ← (earliest-said v))
               (omega (arith, t .low-by v h));
@@ -222,24 +265,29 @@ module _ (rs : List Record) (done : ℕ) (minutes : List ℕ) (fits : done < 2 ^
 -- ---- the loop
 
 -- no records say nothing
-pub tables-start : (rs : List Record) (clock done : ℕ) (minutes : List ℕ) → TablesOf rs (take 0 rs) clock done minutes 0 (replicate mostPoints clock) (replicate mostPoints never)
-unfolding some greatest least
+pub tables-start : (rs : List Record) (clock done : ℕ) (minutes : List ℕ) → TablesOf rs (take 0 rs) clock done minutes 0 (replicate mostPoints 0) (replicate mostPoints clock) (replicate mostPoints never)
+unfolding some placeFrom greatest least
 tables-start rs clock done minutes =
     record {
       fits = omega arith;
+      long-holders = length-replicate {A = ℕ} mostPoints 0;
       long-lows = length-replicate mostPoints clock;
       long-highs = length-replicate mostPoints never;
       shut-by = λ q h. member-empty q;
+      held-by = λ q h. getD-replicate mostPoints q 0 0 h;
       low-by = λ q h. getD-replicate mostPoints q clock 0 h ∙ omega arith;
       high-by = λ q h. getD-replicate mostPoints q never 0 h;
     }
 
 module _ (rs : List Record) (done : ℕ) (minutes : List ℕ) (fits : done < 2 ^ 32) (l : Links) (w : LinksOf rs l) (i : ℕ) (h : i < length rs) (r : Record) (here : getD rs i blank ≡ r) (fine : Fine rs r)
-    (shut : ℕ) (lows highs : List ℕ) (clock : ℕ) (t : TablesOf rs (take i rs) clock done minutes shut lows highs) where
+    (shut : ℕ) (holders lows highs : List ℕ) (clock : ℕ) (t : TablesOf rs (take i rs) clock done minutes shut holders lows highs) where
   abbrev told : Said
   told = said rs done minutes fits (l .ends) (w .ends) r fine
 
+  place : length (take i rs) ≡ i
+  place = length-take i rs ∙ omega arith
+
   -- a record more
-  pub tables-turn : TablesOf rs (take (i + 1) rs) clock done minutes (if told .shuts then withOf shut (r .a) else shut) (set lows (r .a % mostPoints) (max (getD lows (r .a % mostPoints) 0) (told .low)))
+  pub tables-turn : TablesOf rs (take (i + 1) rs) clock done minutes (if told .shuts then withOf shut (r .a) else shut) (held holders shut (r .a) (told .shuts) i) (set lows (r .a % mostPoints) (max (getD lows (r .a % mostPoints) 0) (told .low)))
       (set highs (r .b % mostPoints) (min (getD highs (r .b % mostPoints) 0) (told .high)))
-  tables-turn = rw (one-more rs i h, here) (tables-more rs done minutes fits (l .ends) (w .ends) r fine (take i rs) shut lows highs clock t)
+  tables-turn = rw (one-more rs i h, here) (tables-more rs done minutes fits (l .ends) (w .ends) r fine (take i rs) shut holders lows highs clock t i place)

@@ -17,7 +17,7 @@ use Rattle.history.specs.History.{minuteIn}
 use Rattle.links.specs.Inside.{LinksOf}
 use Rattle.links.specs.declared.End.{End}
 use Rattle.links.specs.declared.Links.{Links}
-use Rattle.lowhigh.specs.Rules.{shuts, earliest, greatest, bound, least, never}
+use Rattle.lowhigh.specs.Rules.{shuts, placeFrom, numberAt, earliest, greatest, bound, least, never}
 use Rattle.lowhigh.specs.declared.Said.{Said}
 
 -- no clock of a sound board is past this
@@ -83,6 +83,11 @@ raised t p v = set t (p % mostPoints) (max (getD t (p % mostPoints) 0) v)
 abbrev pub lowered : List ℕ → ℕ → ℕ → List ℕ
 lowered t p v = set t (p % mostPoints) (min (getD t (p % mostPoints) 0) v)
 
+-- the table of the first records that keep points shut, with record i, which keeps p shut where `so`; `shut` are the points
+-- that earlier records keep shut
+abbrev pub held : List ℕ → ℕ → ℕ → Bool → ℕ → List ℕ
+held t shut p so i = set t (p % mostPoints) (if so && not (member shut p) then i else getD t (p % mostPoints) 0)
+
 -- what one record more asks
 pub record Hearing (r : Record) (e : End) (minutes lows highs : List ℕ) : Type 0 where
   pub small : Small r (getD minutes (r .a % mostPoints) 0) (getD minutes (r .b % mostPoints) 0) (getD minutes (e .from % mostPoints) 0)
@@ -91,10 +96,12 @@ pub record Hearing (r : Record) (e : End) (minutes lows highs : List ℕ) : Type
   pub long-highs : length highs ≡ mostPoints
 
 -- what the records xs among rs say of each point
-pub record TablesOf (rs xs : List Record) (clock done : ℕ) (minutes : List ℕ) (shut : ℕ) (lows highs : List ℕ) : Type 0 where
+pub record TablesOf (rs xs : List Record) (clock done : ℕ) (minutes : List ℕ) (shut : ℕ) (holders lows highs : List ℕ) : Type 0 where
   pub fits : shut < 2 ^ 32
+  pub long-holders : length holders ≡ mostPoints
   pub long-lows : length lows ≡ mostPoints
   pub long-highs : length highs ≡ mostPoints
   pub shut-by : (q : ℕ) → q < mostPoints → member shut q ≡ some (shuts rs done q) xs
+  pub held-by : (q : ℕ) → q < mostPoints → getD holders q 0 ≡ numberAt (placeFrom 0 (shuts rs done q) xs)
   pub low-by : (q : ℕ) → q < mostPoints → getD lows q 0 ≡ max clock (greatest (earliest rs done minutes q) xs)
   pub high-by : (q : ℕ) → q < mostPoints → getD highs q 0 ≡ least (bound done minutes q) xs

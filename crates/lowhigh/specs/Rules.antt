@@ -1,14 +1,18 @@
--- Document 01, "Board, windows, replies": what the records say of a foreman's point q not yet done, on plain values: rs are
--- the plan's records, then the clock, the set of done points and the minute of each. High can be below zero, so it is kept
--- 100,000 up; where there is none, it is past every minute. `board` says the same words of a board. Assumes nothing.
-use mathlib.Core.Bool.{Bool, not, _&&_, _||_}
+-- Document 01, "Board, windows, replies", and document 02, §6: what the records say of a foreman's point q not yet done, on
+-- plain values: rs are the plan's records, then the clock, the set of done points and the minute of each. High can be below
+-- zero, so it is kept 100,000 up; where there is none, it is past every minute. `board` says the same words of a board.
+-- Assumes nothing.
+use mathlib.Core.Bool.{Bool, true, false, not, _&&_, _||_}
 use mathlib.Core.List.{List, [], _∷_}
 use Prim.Native.Nat.{ℕ, _+_, _-_, _^_, min, max}
 use lib.Dec.{eqb, ltb}
 use Rattle.points.specs.Sets.{member}
 use Rattle.plan.specs.Choice.{if_then_else_}
 use Rattle.plan.specs.Limits.{farthest}
-use Rattle.plan.specs.APlan.{ordinary, wait, is, some, points, watched, linkTo, gapOf}
+use Rattle.plan.specs.APlan.{ordinary, wait, is, points, watched, linkTo, gapOf}
+unfoldable pub use Rattle.plan.specs.APlan.{placeFrom}
+use Rattle.plan.specs.declared.Found.{Found}
+use Rattle.plan.specs.declared.Found.the-variants.{At, Nothing}
 use Rattle.records.specs.declared.Record.{Record}
 use Rattle.history.specs.History.{minuteIn, runs}
 
@@ -24,9 +28,31 @@ shuts rs done q r =
 abbrev pub foremans : List Record → ℕ → ℕ → Bool
 foremans rs done q = ltb q (points rs) && (not (watched rs q) && not (member done q))
 
+-- the first record in file order that keeps q shut, if one does
+abbrev pub shutBy : List Record → ℕ → ℕ → Found
+shutBy rs done q = placeFrom 0 (shuts rs done q) rs
+
+abbrev pub isNothing : Found → Bool
+isNothing Nothing = true
+isNothing (At i) = false
+
 -- open: no record keeps it shut
 abbrev pub isOpen : List Record → ℕ → ℕ → Bool
-isOpen rs done q = foremans rs done q && not (some (shuts rs done q) rs)
+isOpen rs done q = foremans rs done q && isNothing (shutBy rs done q)
+
+-- a record's number in the plan's file, and 0 for none: record 0 is always a point's
+abbrev pub numberAt : Found → ℕ
+numberAt Nothing = 0
+numberAt (At i) = i
+
+-- the number of the record that keeps q shut
+abbrev pub holder : List Record → ℕ → ℕ → ℕ
+holder rs done q = numberAt (shutBy rs done q)
+
+-- the record beside the number n of an event for the point q: beside 28 the one that keeps q shut, none where q is watched or
+-- done; none beside any other number
+abbrev pub beside : List Record → ℕ → ℕ → ℕ → ℕ
+beside rs done q n = if eqb n 28 && foremans rs done q then holder rs done q else 0
 
 -- the minute before which r keeps q: Y − d for a record from q to a done Y, A + w for a wait on q whose link is running,
 -- else 0

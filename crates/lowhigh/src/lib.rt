@@ -1,12 +1,14 @@
 // What the records of a plan say of its points, from what has happened as plain values: one pass keeps the set of shut
-// points and two tables, of the Lows and of the Highs. A plan that `check` accepts and small minutes are assumed, so that
+// points and three tables, of the records that keep them shut, of the Lows and of the Highs. A plan that `check` accepts and small minutes are assumed, so that
 // every number fits. A High can be below zero, and is kept 100,000 up. An inner room: it serves `windows` and `steps`.
 ghost use mathlib.Core.Path.{_≡_};
 ghost use Prim.Native.Nat.{_-_, _≤_, max, min};
+ghost use lib.ListN.{length};
 ghost use Rattle.points.specs.Sets.{withOf};
 ghost use Rattle.plan.specs.Choice.{if_then_else_};
+ghost use Rattle.plan.specs.Limits.{mostPoints};
 ghost use Rattle.plan.specs.APlan.{recordsOf};
-ghost use Rattle.lowhigh.specs.Inside.{lastMinute, Near, Given, ordinarySays, waitSays, saysOf, Small, saidBy, Hearing, raised, lowered, TablesOf};
+ghost use Rattle.lowhigh.specs.Inside.{lastMinute, Near, Given, ordinarySays, waitSays, saysOf, Small, saidBy, Hearing, raised, lowered, held, TablesOf};
 use history::ROOM;
 use history::used;
 use links::End;
@@ -45,9 +47,11 @@ pub fn past(x: u32, y: u32) -> u32
     if x < y { 0 } else { x - y }
 }
 
-// What the records say of each point: which are shut, the Lows, and the Highs, 100,000 up.
+// What the records say of each point: which are shut, the number of the first record that keeps each of these shut and 0 for
+// the others, the Lows, and the Highs, 100,000 up.
 pub struct Tables {
     pub shut: u32,
+    pub holders: [u32; ROOM],
     pub lows: [u32; ROOM],
     pub highs: [u32; ROOM],
 }
@@ -143,13 +147,24 @@ fn hear(
     said.shuts
 }
 
+// The table of the first records that keep points shut, with record i, which keeps p shut where `so`; `shut` are the points that
+// earlier records keep shut.
+fn hold(holders: &mut [u32], shut: u32, p: u8, so: bool, i: u32)
+    requires { ⌜ length (now holders) ≡ mostPoints ⌝ }
+    ensures { λ _. ⌜ now (holders .exit) ≡ held (now (holders .entry)) shut p so i ⌝ }
+{
+    let at = p as usize % ROOM;
+    holders[at] = either(so & !has(shut, p), i, holders[at]);
+}
+
 // The pass over the records.
 pub fn tables_of(plan: Plan, links: Links, clock: u32, done: u32, minutes: [u32; ROOM]) -> Tables
     requires { ⌜ Given plan links minutes ⌝ }
-    ensures { λ t. ⌜ TablesOf (recordsOf plan) (recordsOf plan) clock done minutes (t .shut) (t .lows) (t .highs) ⌝ }
+    ensures { λ t. ⌜ TablesOf (recordsOf plan) (recordsOf plan) clock done minutes (t .shut) (t .holders) (t .lows) (t .highs) ⌝ }
 {
     let count = used(plan.count);
     let mut shut: u32 = 0;
+    let mut holders = [0u32; ROOM];
     let mut lows = [clock; ROOM];
     let mut highs = [NEVER; ROOM];
     let mut i: usize = 0;
@@ -158,11 +173,13 @@ pub fn tables_of(plan: Plan, links: Links, clock: u32, done: u32, minutes: [u32;
         let b = r.b as usize % ROOM;
         let end = links.ends[b];
         let so = hear(r, end, done, &minutes, &mut lows, &mut highs);
+        hold(&mut holders, shut, r.a, so, i as u32);
         shut = with_if(so, shut, r.a);
         i += 1;
     }
     Tables {
         shut: shut,
+        holders: holders,
         lows: lows,
         highs: highs,
     }

@@ -286,6 +286,24 @@ accepted-plan p e =
           (g .0, sym (eqb-true _ _ (g .1)), f .1);
     }
 
+-- The first record of an accepted plan is a point's: any other names points that are missing there.
+first-of : (rs : List Record) → firstBad [] (map plain rs) .number ≡ 0 → 1 ≤ length rs → is point (getD rs 0 blank) ≡ true
+unfolding firstBadWith howMany
+first-of [] e h = absurd (omega arith)
+first-of (x ∷ xs) e h = go (is point x) refl
+  where
+    n : numberOf (after []) x 0 ≡ 0
+    n = Entries.passed (λ (x : Refusal). x .number) _ _ _ refl e
+
+    go : (b : Bool) → is point x ≡ b → b ≡ true
+    go true f = refl
+    go false f =
+        let z : points (x ∷ []) ≡ 0 = rw f in
+        absurd (omega (arith, kept-more [] x n kept-none .each 0 (omega arith) .names f .0))
+
+pub first-point : (p : Plan) → checkOf p .number ≡ 0 → 1 ≤ length (recordsOf p) → is point (getD (recordsOf p) 0 blank) ≡ true
+first-point p e h = first-of (recordsOf p) (none-refused p e) h
+
 many-some : (so : Record → Bool) (rs : List Record) → some so rs ≡ true → 1 ≤ howMany so rs
 unfolding some howMany
 many-some so [] e = clash (sym e)

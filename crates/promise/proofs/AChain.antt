@@ -6,7 +6,7 @@ use Prim.Native.Nat.{ℕ}
 use lib.Count.{ones}
 use lib.ListN.{getD, replicate}
 use Rattle.points.specs.Sets.{member, membersOf, withOf, belowOf, subsetOf, from, every, passing}
-use Rattle.plan.specs.APlan.{howMany, some, firstThat, recordsOf}
+use Rattle.plan.specs.APlan.{howMany, some, firstThat, placeFrom, recordsOf}
 use Rattle.plan.specs.ReplyNumbers.{checkOf, checkWith, firstBadWith, numberForWith, lastKind}
 use Rattle.board.specs.Calls.{numbered}
 use Rattle.board.specs.Boards.{fresh, sound, each, largest}
@@ -31,13 +31,13 @@ onTransfer e = takeOf trucks (boardOf trucks (alone 0 0 ∷ alone 10 1 ∷ ends 
 
 -- The second truck cannot arrive before the first, nor in the event in which that arrives.
 pub not-at-once : (onRoad (ends 35 4) ≡ 0) × (onRoad (ends 35 8) ≡ 25) × (onRoad (ends 35 12) ≡ 25)
-unfolding ones boardAfterAll takeOf eventNumber boardAfter markAll sound numbered each largest greatest least leastHigh member membersOf withOf belowOf subsetOf from every passing howMany some firstThat checkWith firstBadWith numberForWith lastKind
+unfolding ones boardAfterAll takeOf eventNumber boardAfter markAll sound numbered each largest greatest least leastHigh member membersOf withOf belowOf subsetOf from every passing howMany some firstThat placeFrom checkWith firstBadWith numberForWith lastKind
 not-at-once = (refl, refl, refl)
 
 -- It arrives 10 to 15 minutes after the first has, whenever that left: 26 outside of these, and 27 where it is passed over.
 pub counts-from-arrival : (onTransfer (ends 44 8) ≡ 26) × (onTransfer (ends 45 8) ≡ 0) × (onTransfer (ends 50 8) ≡ 0)
     × (onTransfer (ends 51 8) ≡ 26) × (onTransfer (alone 51 4) ≡ 27)
-unfolding ones boardAfterAll takeOf eventNumber boardAfter markAll sound numbered each largest greatest least leastHigh member membersOf withOf belowOf subsetOf from every passing howMany some firstThat checkWith firstBadWith numberForWith lastKind
+unfolding ones boardAfterAll takeOf eventNumber boardAfter markAll sound numbered each largest greatest least leastHigh member membersOf withOf belowOf subsetOf from every passing howMany some firstThat placeFrom checkWith firstBadWith numberForWith lastKind
 counts-from-arrival = (refl, refl, refl, refl, refl)
 
 -- ---- a whole day
@@ -48,8 +48,8 @@ chainDay q = getD (0 ∷ 10 ∷ 35 ∷ 47 ∷ 49 ∷ []) q 0
 
 -- Each of its events is taken.
 pub chain-day-said : saidOf trucks fresh (map eventBytes (eventsOf (recordsOf trucks) chainDay))
-    ≡ 0 ∷ 0 ∷ 1 ∷ 0 ∷ 10 ∷ 3 ∷ 0 ∷ 35 ∷ 7 ∷ 0 ∷ 47 ∷ 15 ∷ 0 ∷ 49 ∷ 31 ∷ []
-unfolding inPlace inOrder eventsOver setOf saidOf ones takeOf eventNumber boardAfter markAll sound numbered each largest greatest least leastHigh member membersOf withOf belowOf subsetOf from every passing howMany some firstThat checkWith firstBadWith numberForWith lastKind
+    ≡ 0 ∷ 0 ∷ 0 ∷ 1 ∷ 0 ∷ 0 ∷ 10 ∷ 3 ∷ 0 ∷ 0 ∷ 35 ∷ 7 ∷ 0 ∷ 0 ∷ 47 ∷ 15 ∷ 0 ∷ 0 ∷ 49 ∷ 31 ∷ []
+unfolding inPlace inOrder eventsOver setOf saidOf ones takeOf eventNumber boardAfter markAll sound numbered each largest greatest least leastHigh member membersOf withOf belowOf subsetOf from every passing howMany some firstThat placeFrom checkWith firstBadWith numberForWith lastKind
 chain-day-said = refl
 
 -- ---- a ring

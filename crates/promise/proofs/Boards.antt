@@ -26,6 +26,7 @@ use Rattle.board.proofs.Theorems.Each.{clash, both, point-every, greatest-le}
 use Rattle.board.proofs.Theorems.Soundness.{HeldBoard, Sound, SoundLink}
 use Rattle.board.proofs.Theorems.Marks.{names, named, Marks, after-marks}
 use Rattle.board.proofs.Theorems.Taking.{Takes, opened, something-open, fresh-points}
+use Rattle.board.proofs.Theorems.Why.{open-is}
 use Rattle.network.proofs.States.{State, Change, same, fresh, still}
 use Rattle.network.proofs.States as states
 use Rattle.network.proofs.Plans.{Running, Open, Shut, by-record, by-wait, FromLow, ToH, May, offered, ends, Event, InTime}
@@ -137,10 +138,10 @@ module _ (rs : List Record) (ok : Accepted rs) (b : Board) where
   pub open-of : (q : ℕ) → isOpen rs b q ≡ true → Open (netOf rs) (saysOf b) q
   open-of q e =
       let o = opened rs b q e in
-      open-from rs ok (saysOf b) q (not-true _ (both (foremans rs b q) _ e .1)) (λ A x y l. clash (sym (joins rs ok l .watched) ∙ o .1)) (o .2)
+      open-from rs ok (saysOf b) q (not-true _ (both (foremans rs b q) _ (sym (open-is rs b q) ∙ e) .1)) (λ A x y l. clash (sym (joins rs ok l .watched) ∙ o .1)) (o .2)
 
   pub is-open : (q : ℕ) → q < points rs → Open (netOf rs) (saysOf b) q → isOpen rs b q ≡ true
-  is-open q l o = go (watched rs q) (some (shuts rs b q) rs) refl refl
+  is-open q l o = open-is rs b q ∙ go (watched rs q) (some (shuts rs b q) rs) refl refl
     where
       go : (c s : Bool) → watched rs q ≡ c → some (shuts rs b q) rs ≡ s → ((ltb q (points rs) && (not c && not (isDone b q))) && not s) ≡ true
       go true s e f = absurd (o .foremans _ _ _ (link-of rs ok q e))

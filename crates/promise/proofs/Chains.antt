@@ -18,7 +18,7 @@ use Rattle.records.specs.declared.Record.{Record}
 use Rattle.plan.specs.declared.Plan.{Plan}
 use Rattle.plan.proofs.Accepted.{Accepted, accepted-plan}
 use Rattle.board.specs.Boards.{sound, isDone, minute}
-use Rattle.board.specs.Events.{eventMinute, eventPoint, eventSet, noPoint, endsRunning, eventNumber, boardAfter, taken, takeOf}
+use Rattle.board.specs.Events.{eventMinute, eventPoint, eventSet, noPoint, endsRunning, eventNumber, eventRecord, boardAfter, taken, takeOf}
 use Rattle.board.specs.declared.Board.{Board}
 use Rattle.board.proofs.Theorems.Each.{clash, and-both}
 use Rattle.board.proofs.Theorems.Soundness.{HeldBoard, Sound, sound-means}
@@ -40,7 +40,7 @@ taken-by p b s e = go (eqb (checkOf p .number) 0) (sound (recordsOf p) b) refl r
     go : (x y : Bool) → eqb (checkOf p .number) 0 ≡ x → sound (recordsOf p) b ≡ y
         → (if not x then taken (checkOf p .number) (checkOf p .place) b
         else if not y then taken 20 0 b
-        else if not (eqb (eventNumber (recordsOf p) b s) 0) then taken (eventNumber (recordsOf p) b s) 0 b
+        else if not (eqb (eventNumber (recordsOf p) b s) 0) then taken (eventNumber (recordsOf p) b s) (eventRecord (recordsOf p) b s) b
         else taken 0 0 (boardAfter b s)) .number ≡ 0
         → (checkOf p .number ≡ 0) × (y ≡ true)
     go false y f g e = clash (sym (eq-eqb _ _ e) ∙ f)

@@ -6,7 +6,7 @@ use Prim.Native.Nat.{ℕ}
 use lib.Count.{ones}
 use lib.ListN.{getD, replicate}
 use Rattle.points.specs.Sets.{member, membersOf, withOf, belowOf, subsetOf, from, every, passing}
-use Rattle.plan.specs.APlan.{howMany, some, firstThat, recordsOf}
+use Rattle.plan.specs.APlan.{howMany, some, firstThat, placeFrom, recordsOf}
 use Rattle.plan.specs.Haul.{haul}
 use Rattle.plan.specs.ReplyNumbers.{checkWith, firstBadWith, numberForWith, lastKind}
 use Rattle.board.specs.Calls.{numbered}
@@ -27,16 +27,16 @@ unfolding inPlace inOrder eventsOver setOf member withOf from passing howMany so
 day-events = refl
 
 -- Each is taken, with the clock and the done points that the day has, and the board has its minutes.
-pub day-said : saidOf haul fresh (map eventBytes (eventsOf (recordsOf haul) day)) ≡ 0 ∷ 0 ∷ 1 ∷ 0 ∷ 12 ∷ 3 ∷ 0 ∷ 40 ∷ 7 ∷ 0 ∷ 43 ∷ 15 ∷ []
-unfolding inPlace inOrder eventsOver setOf saidOf ones takeOf eventNumber boardAfter markAll sound numbered each largest greatest least leastHigh member membersOf withOf belowOf subsetOf from every passing howMany some firstThat checkWith firstBadWith numberForWith lastKind
+pub day-said : saidOf haul fresh (map eventBytes (eventsOf (recordsOf haul) day)) ≡ 0 ∷ 0 ∷ 0 ∷ 1 ∷ 0 ∷ 0 ∷ 12 ∷ 3 ∷ 0 ∷ 0 ∷ 40 ∷ 7 ∷ 0 ∷ 0 ∷ 43 ∷ 15 ∷ []
+unfolding inPlace inOrder eventsOver setOf saidOf ones takeOf eventNumber boardAfter markAll sound numbered each largest greatest least leastHigh member membersOf withOf belowOf subsetOf from every passing howMany some firstThat placeFrom checkWith firstBadWith numberForWith lastKind
 day-said = refl
 
 pub day-board : boardOf haul (eventsOf (recordsOf haul) day) .minutes ≡ (0 ∷ 12 ∷ 40 ∷ 43 ∷ []) ++ replicate 28 0
-unfolding inPlace inOrder eventsOver setOf boardAfterAll ones takeOf eventNumber boardAfter markAll sound numbered each largest greatest least leastHigh member membersOf withOf belowOf subsetOf from every passing howMany some firstThat checkWith firstBadWith numberForWith lastKind
+unfolding inPlace inOrder eventsOver setOf boardAfterAll ones takeOf eventNumber boardAfter markAll sound numbered each largest greatest least leastHigh member membersOf withOf belowOf subsetOf from every passing howMany some firstThat placeFrom checkWith firstBadWith numberForWith lastKind
 day-board = refl
 
 -- Where the truck arrives and the fish are loaded at the same minute, the arrival is an event of its own, before the loading:
 -- the other way about the wait would refuse the loading.
 pub at-once : boardOf haul (eventsOf (recordsOf haul) (λ q. getD (0 ∷ 12 ∷ 40 ∷ 40 ∷ []) q 0)) .minutes ≡ (0 ∷ 12 ∷ 40 ∷ 40 ∷ []) ++ replicate 28 0
-unfolding inPlace inOrder eventsOver setOf boardAfterAll ones takeOf eventNumber boardAfter markAll sound numbered each largest greatest least leastHigh member membersOf withOf belowOf subsetOf from every passing howMany some firstThat checkWith firstBadWith numberForWith lastKind
+unfolding inPlace inOrder eventsOver setOf boardAfterAll ones takeOf eventNumber boardAfter markAll sound numbered each largest greatest least leastHigh member membersOf withOf belowOf subsetOf from every passing howMany some firstThat placeFrom checkWith firstBadWith numberForWith lastKind
 at-once = refl

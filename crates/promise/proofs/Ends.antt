@@ -17,7 +17,7 @@ use Rattle.board.specs.Boards.{sound}
 use Rattle.board.specs.Windows.{someOpen}
 use Rattle.board.specs.Stuck.{finished, stuck}
 use Rattle.replies.specs.Replies.{outcomeOf, replyOf}
-use Rattle.board.specs.Events.{eventNumber, boardAfter, taken, takeOf}
+use Rattle.board.specs.Events.{eventNumber, eventRecord, boardAfter, taken, takeOf}
 use Rattle.verdict.specs.Verdicts.{verdictOf}
 use Rattle.board.specs.declared.Board.{Board}
 use Rattle.replies.specs.declared.Outcome.{Outcome}
@@ -38,8 +38,8 @@ stays p b s e =
     go (eqb (checkOf p .number) 0) (sound (recordsOf p) b) (eqb (eventNumber (recordsOf p) b s) 0) e
   where
     go : (x y z : Bool)
-        → eqb ((if not x then taken (checkOf p .number) (checkOf p .place) b else if not y then taken 20 0 b else if not z then taken (eventNumber (recordsOf p) b s) 0 b else taken 0 0 (boardAfter b s)) .number) 0 ≡ false
-        → (if not x then taken (checkOf p .number) (checkOf p .place) b else if not y then taken 20 0 b else if not z then taken (eventNumber (recordsOf p) b s) 0 b else taken 0 0 (boardAfter b s)) .board ≡ b
+        → eqb ((if not x then taken (checkOf p .number) (checkOf p .place) b else if not y then taken 20 0 b else if not z then taken (eventNumber (recordsOf p) b s) (eventRecord (recordsOf p) b s) b else taken 0 0 (boardAfter b s)) .number) 0 ≡ false
+        → (if not x then taken (checkOf p .number) (checkOf p .place) b else if not y then taken 20 0 b else if not z then taken (eventNumber (recordsOf p) b s) (eventRecord (recordsOf p) b s) b else taken 0 0 (boardAfter b s)) .board ≡ b
     go false y z e = refl
     go true false z e = refl
     go true true false e = refl

@@ -20,8 +20,8 @@ use Rattle.plan.proofs.Accepted.{Accepted, accepted-plan}
 use Rattle.board.specs.Boards.{fresh, sound}
 use Rattle.board.specs.Windows.{someOpen}
 use Rattle.board.specs.Stuck.{finished, stuck}
-use Rattle.replies.specs.Replies.{outcomeOf, isOffer, offer, bare, replyOf}
-use Rattle.board.specs.Events.{eventSet, eventNumber, boardAfter, taken, takeOf}
+use Rattle.replies.specs.Replies.{outcomeOf, replyFor, replyOf}
+use Rattle.board.specs.Events.{eventSet, eventNumber, eventRecord, boardAfter, taken, takeOf}
 use Rattle.verdict.specs.Verdicts.{firstBroken, endedOf, verdictOf}
 use Rattle.board.specs.declared.Board.{Board}
 use Rattle.replies.specs.declared.Outcome.{Outcome}
@@ -53,7 +53,7 @@ set-fits s h = omega (arith, byte-at s h 8, byte-at s h 9, byte-at s h 10, byte-
 -- ---- the outcome
 
 -- the reply to a board that is not refused has its outcome
-reply-outcome : (rs : List Record) (b : Board) (o : Outcome) → (if isOffer o then offer rs b else bare o) .outcome ≡ o
+reply-outcome : (rs : List Record) (b : Board) (o : Outcome) → replyFor o rs b .outcome ≡ o
 reply-outcome rs b (Refused n i) = refl
 reply-outcome rs b Finished = refl
 reply-outcome rs b Stuck = refl
@@ -87,7 +87,7 @@ module _ (p : Plan) (ok : checkOf p .number ≡ 0) where
   -- What taking an event answers, for a plan that is accepted.
   pub take-is : (b : Board) (s : List ℕ) → takeOf p b s
       ≡ (if not (sound (recordsOf p) b) then taken 20 0 b
-      else if not (eqb (eventNumber (recordsOf p) b s) 0) then taken (eventNumber (recordsOf p) b s) 0 b
+      else if not (eqb (eventNumber (recordsOf p) b s) 0) then taken (eventNumber (recordsOf p) b s) (eventRecord (recordsOf p) b s) b
       else taken 0 0 (boardAfter b s))
   unfolding takeOf
   take-is b s = rw ok
@@ -96,8 +96,8 @@ module _ (p : Plan) (ok : checkOf p .number ≡ 0) where
   pub took : (b : Board) (s : List ℕ) → sound (recordsOf p) b ≡ true → takeOf p b s .number ≡ 0 → (eventNumber (recordsOf p) b s ≡ 0) × (takeOf p b s .board ≡ boardAfter b s)
   took b s g e = rw (take-is b s, g) (go (eqb (eventNumber (recordsOf p) b s) 0) refl (rw (take-is b s, g) at e))
     where
-      go : (n : Bool) → eqb (eventNumber (recordsOf p) b s) 0 ≡ n → (if not n then taken (eventNumber (recordsOf p) b s) 0 b else taken 0 0 (boardAfter b s)) .number ≡ 0
-          → (eventNumber (recordsOf p) b s ≡ 0) × ((if not n then taken (eventNumber (recordsOf p) b s) 0 b else taken 0 0 (boardAfter b s)) .board ≡ boardAfter b s)
+      go : (n : Bool) → eqb (eventNumber (recordsOf p) b s) 0 ≡ n → (if not n then taken (eventNumber (recordsOf p) b s) (eventRecord (recordsOf p) b s) b else taken 0 0 (boardAfter b s)) .number ≡ 0
+          → (eventNumber (recordsOf p) b s ≡ 0) × ((if not n then taken (eventNumber (recordsOf p) b s) (eventRecord (recordsOf p) b s) b else taken 0 0 (boardAfter b s)) .board ≡ boardAfter b s)
       go true f e = (eqb-true _ _ f, refl)
       go false f e = clash (rw e at f)
 

@@ -16,7 +16,7 @@ use Rattle.records.specs.declared.Record.{Record}
 use Rattle.plan.specs.declared.Plan.{Plan}
 use Rattle.plan.proofs.Accepted.{Accepted, accepted-plan}
 use Rattle.board.specs.Boards.{sound, isDone, minute, longest}
-use Rattle.board.specs.Windows.{isOpen, low, H, allAbove}
+use Rattle.board.specs.Windows.{isOpen, holder, low, H, allAbove}
 use Rattle.board.specs.Stuck.{latest}
 use Rattle.replies.specs.Replies.{stateOf, bare, soundReply, replyOf}
 use Rattle.board.specs.declared.Board.{Board}
@@ -87,7 +87,7 @@ module _ (p : Plan) (ok : checkOf p .number ≡ 0) where
       go (isDone b q) (watched rs q) (isOpen rs b q) (ltb (latest rs b) (low rs b q)) (c .2) (c .1) can (le-ltb (latest rs b) (low rs b q) l)
     where
       go : (d w o h : Bool) → d ≡ false → w ≡ false → o ≡ true → h ≡ false
-          → (if d then Done (minute b q) else if w then Watched else if not o then Shut else if h then Held else Offered (low rs b q)) ≡ Offered (low rs b q)
+          → (if d then Done (minute b q) else if w then Watched else if not o then Shut (holder rs b q) else if h then Held else Offered (low rs b q)) ≡ Offered (low rs b q)
       go d w o h e f g i = rw (e, f, g, i)
 
   -- An offer offers something.

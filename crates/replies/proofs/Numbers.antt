@@ -12,29 +12,22 @@ use Rattle.board.specs.Boards.{sound}
 use Rattle.board.specs.Windows.{someOpen}
 use Rattle.board.specs.Stuck.{finished, stuck}
 use Rattle.board.specs.declared.Board.{Board}
-use Rattle.replies.specs.Replies.{outcomeOf, soundReply, offer, bare, isOffer, replyOf}
+use Rattle.replies.specs.Replies.{outcomeOf, replyFor, soundReply, bare, replyOf}
 use Rattle.replies.specs.Numbers.{outcomeNumber, callNumber}
 use Rattle.replies.specs.declared.Outcome.the-variants as outcome
 use Rattle.replies.specs.declared.Reply.{Reply}
 
 module _ (rs : List Record) (b : Board) where
   -- an outcome that fits is no refusal
-  fits-number : outcomeNumber (outcomeOf rs b) ≡ 0
+  sound-number : outcomeNumber (soundReply rs b .outcome) ≡ 0
   unfolding outcomeOf
-  fits-number = go (finished rs b) (stuck rs b) (someOpen rs b)
+  sound-number = go (finished rs b) (stuck rs b) (someOpen rs b)
     where
-      go : (f s o : Bool) → outcomeNumber (if f then outcome.Finished else if s then outcome.Stuck else if not o then outcome.Waiting else outcome.Offers) ≡ 0
+      go : (f s o : Bool) → outcomeNumber (replyFor (if f then outcome.Finished else if s then outcome.Stuck else if not o then outcome.Waiting else outcome.Offers) rs b .outcome) ≡ 0
       go true s o = refl
       go false true o = refl
       go false false true = refl
       go false false false = refl
-
-  sound-number : outcomeNumber (soundReply rs b .outcome) ≡ 0
-  sound-number = go (isOffer (outcomeOf rs b))
-    where
-      go : (k : Bool) → outcomeNumber ((if k then offer rs b else bare (outcomeOf rs b)) .outcome) ≡ 0
-      go true = refl
-      go false = fits-number
 
 module _ (p : Plan) (b : Board) where
   -- The number of a reply is the plan's own, or 20, or 0.

@@ -20,7 +20,7 @@ use Rattle.plan.specs.declared.Plan.{Plan}
 use Rattle.plan.proofs.Words.{word-back}
 use Rattle.plan.proofs.Accepted.{Accepted, accepted-plan}
 use Rattle.board.specs.Boards.{isDone, minute, each, sound}
-use Rattle.board.specs.Windows.{isOpen, low, someOpen}
+use Rattle.board.specs.Windows.{isOpen, holder, low, someOpen}
 use Rattle.board.specs.Stuck.{finished, stuck, latest}
 use Rattle.replies.specs.Replies.{outcomeOf, stateOf}
 use Rattle.board.specs.Events.{eventMinute, noPoint, wellFormed, endsRunning, inTime, notLate, eventNumber}
@@ -56,7 +56,7 @@ module _ (rs : List Record) (b : Board) where
   offered q t e = go (isDone b q) (watched rs q) (isOpen rs b q) (ltb (latest rs b) (low rs b q)) refl e
     where
       go : (d w o h : Bool) → ltb (latest rs b) (low rs b q) ≡ h
-          → (if d then Done (minute b q) else if w then Watched else if not o then Shut else if h then Held else Offered (low rs b q)) ≡ Offered t
+          → (if d then Done (minute b q) else if w then Watched else if not o then Shut (holder rs b q) else if h then Held else Offered (low rs b q)) ≡ Offered t
           → (o ≡ true) × (low rs b q ≤ latest rs b) × (low rs b q ≡ t)
       go true w o h f e = differ cc
       go false true o h f e = differ cc

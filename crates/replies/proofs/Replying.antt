@@ -1,32 +1,37 @@
 -- The reply from the windows: the list of an offer, and the first outcome that fits. Assumes nothing.
 use mathlib.Core.Path.{_≡_, refl, sym, ap, _∙_}
-use mathlib.Core.Bool.{Bool, true, false}
+use mathlib.Core.Bool.{Bool, true, false, not}
 use mathlib.Core.List.{List, map}
 use Prim.Native.Nat.{ℕ, zero, suc, _+_, _-_, _≤_, _<_, min}
 use native.Mathlib.Omega.{arith}
 use native.Mathlib.Decide.{ℕ-discrete}
 use borrow.Author.Tests.{ne-eqb}
+use lib.Dec.{ltb}
 use lib.ListN.{length, getD, set, replicate, length-set, length-map, length-replicate}
 use lib.Seq.{getD-set-same, getD-set-other, ext-getD}
 use Rattle.points.specs.Sets.{from}
+use Rattle.plan.specs.Choice.{if_then_else_}
 use Rattle.plan.specs.Limits.{mostPoints, farthest}
-use Rattle.plan.specs.APlan.{recordsOf}
+use Rattle.plan.specs.APlan.{watched, recordsOf}
 use Rattle.plan.specs.ReplyNumbers.{checkOf}
 use Rattle.records.specs.declared.Record.{Record}
 use Rattle.plan.specs.declared.Plan.{Plan}
 use Rattle.plan.specs.declared.Refusal.{Refusal}
-use Rattle.board.specs.Boards.{sound}
-use Rattle.board.specs.Windows.{someOpen}
+use Rattle.board.specs.Boards.{sound, isDone, minute}
+use Rattle.board.specs.Windows.{isOpen, holder, low, someOpen}
 use Rattle.board.specs.Stuck.{finished, stuck, latest}
 use Rattle.links.specs.Inside.{LinksOf}
 use Rattle.board.specs.InsideReplies.{WindowsOf}
 use Rattle.board.specs.declared.Board.{Board}
 use Rattle.links.specs.declared.Links.{Links}
 use Rattle.windows.specs.declared.Windows.{Windows}
-use Rattle.replies.specs.Replies.{outcomeOf, stateOf, shut, bare, offer, soundReply, replyOf}
-use Rattle.replies.specs.Inside.{stateFrom, placeFrom, offerFrom}
+use Rattle.replies.specs.Replies.{outcomeOf, stateOf, shut, bare, offer, withheld, standing, soundReply, replyOf}
+use Rattle.replies.specs.Inside.{stateFrom, placeFrom, listFrom}
 use Rattle.replies.specs.declared.Place.{Place}
-use Rattle.replies.specs.declared.Outcome.the-variants.{Refused, Finished, Stuck, Waiting}
+use Rattle.replies.specs.declared.State.{State}
+use Rattle.replies.specs.declared.State.the-variants.{Done, Watched, Shut, Held, Offered}
+use Rattle.replies.specs.declared.Outcome.{Outcome}
+use Rattle.replies.specs.declared.Outcome.the-variants.{Refused, Finished, Stuck, Waiting, Offers}
 
 -- ---- the list of an offer
 
@@ -72,25 +77,43 @@ map-same f g (suc n) p h = rw (h p (omega arith), map-same f g n (suc p) (λ q k
 -- ---- the outcomes
 
 module _ (rs : List Record) (b : Board) where
-  pub offer-here : (l : Links) → LinksOf rs l → (w : Windows) → WindowsOf rs b w → (m : ℕ) → m ≡ min (w .high) (b .clock + farthest + farthest) - farthest
-      → offerFrom b (l .watched) w m ≡ offer rs b
-  unfolding stateFrom stateOf
-  offer-here l links w have m e =
-      let late : m ≡ latest rs b = rw (have .high) at e in
-      rw (late, map-same (placeFrom b (l .watched) w (latest rs b)) (λ (q : ℕ). record { state = stateOf rs b q }) mostPoints 0 place)
-    where
-      place : (q : ℕ) → q < mostPoints → placeFrom b (l .watched) w (latest rs b) q ≡ record { state = stateOf rs b q }
-      place q h = rw (links .watches q h, have .opens q h, have .lows q h)
+  module _ (l : Links) (links : LinksOf rs l) (w : Windows) (have : WindowsOf rs b w) where
+    pub offer-here : (m : ℕ) → m ≡ min (w .high) (b .clock + farthest + farthest) - farthest → listFrom Offers b (l .watched) w true m ≡ offer rs b
+    unfolding stateFrom stateOf
+    offer-here m e =
+        let late : m ≡ latest rs b = rw (have .high) at e in
+        rw (late, map-same (placeFrom b (l .watched) w true (latest rs b)) (λ (q : ℕ). record { state = stateOf rs b q }) mostPoints 0 place)
+      where
+        place : (q : ℕ) → q < mostPoints → placeFrom b (l .watched) w true (latest rs b) q ≡ record { state = stateOf rs b q }
+        place q h = rw (links .watches q h, have .opens q h, have .holders q h, have .lows q h)
+
+    pub standing-here : (o : Outcome) → listFrom o b (l .watched) w false 0 ≡ standing o rs b
+    unfolding stateFrom stateOf
+    standing-here o = rw (map-same (placeFrom b (l .watched) w false 0) (λ (q : ℕ). record { state = withheld (stateOf rs b q) }) mostPoints 0 place)
+      where
+        read : (d c o late : Bool) (m i low : ℕ)
+            → (if d then Done m else if c then Watched else if not o then Shut i else Held)
+            ≡ withheld (if d then Done m else if c then Watched else if not o then Shut i else if late then Held else Offered low)
+        read true c o late m i low = refl
+        read false true o late m i low = refl
+        read false false false late m i low = refl
+        read false false true true m i low = refl
+        read false false true false m i low = refl
+
+        place : (q : ℕ) → q < mostPoints → placeFrom b (l .watched) w false 0 q ≡ record { state = withheld (stateOf rs b q) }
+        place q h =
+            rw (links .watches q h, have .opens q h, have .holders q h)
+            (ap (λ (s : State). record { state = s }) (read (isDone b q) (watched rs q) (isOpen rs b q) (ltb (latest rs b) (low rs b q)) (minute b q) (holder rs b q) (low rs b q)))
 
   pub reply-finished : finished rs b ≡ true → bare Finished ≡ soundReply rs b
   unfolding outcomeOf
   reply-finished f = rw f
 
-  pub reply-stuck : finished rs b ≡ false → stuck rs b ≡ true → bare Stuck ≡ soundReply rs b
+  pub reply-stuck : finished rs b ≡ false → stuck rs b ≡ true → standing Stuck rs b ≡ soundReply rs b
   unfolding outcomeOf
   reply-stuck f s = rw (f, s)
 
-  pub reply-waiting : finished rs b ≡ false → stuck rs b ≡ false → someOpen rs b ≡ false → bare Waiting ≡ soundReply rs b
+  pub reply-waiting : finished rs b ≡ false → stuck rs b ≡ false → someOpen rs b ≡ false → standing Waiting rs b ≡ soundReply rs b
   unfolding outcomeOf
   reply-waiting f s o = rw (f, s, o)
 

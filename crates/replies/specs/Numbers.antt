@@ -30,11 +30,11 @@ outcomeValues outcome.Stuck = []
 outcomeValues outcome.Waiting = []
 outcomeValues outcome.Offers = []
 
--- done at a minute, watched, shut, held, offered from its Low
+-- done at a minute, watched, shut by a record, held, offered from its Low
 abbrev pub stateValues : State → List ℕ
 stateValues (Done m) = m ∷ []
 stateValues Watched = []
-stateValues Shut = []
+stateValues (Shut i) = i ∷ []
 stateValues Held = []
 stateValues (Offered low) = low ∷ []
 

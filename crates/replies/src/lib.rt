@@ -1,12 +1,12 @@
-// The reply to a board: the first outcome that fits, and for an offer the latest and a state for each point. Document 01,
-// "Board, windows, replies". `reply_of` takes any plan and any board; the functions behind it assume what their contracts ask,
+// The reply to a board: the first outcome that fits, for an offer the latest, and for an offer, a waiting and a stuck board a state
+// for each point. Document 01, "Board, windows, replies", and document 02, §6. `reply_of` takes any plan and any board; the functions behind it assume what their contracts ask,
 // an accepted plan and a sound board.
 ghost use mathlib.Core.Path.{_≡_};
 ghost use Rattle.plan.specs.APlan.{recordsOf};
 ghost use Rattle.board.specs.InsideReplies.{Ready};
 ghost use Rattle.replies.specs.Replies.{bare, soundReply, replyOf};
 ghost use Rattle.replies.specs.Numbers.{outcomeNumber, callNumber};
-ghost use Rattle.replies.specs.Inside.{stateFrom, offerFrom};
+ghost use Rattle.replies.specs.Inside.{stateFrom, listFrom};
 use board::Board;
 use board::ROOM;
 use board::UNSOUND;
@@ -24,11 +24,12 @@ use points::has;
 use windows::Windows;
 use windows::latest_of;
 
-// What is said of one point in an offer.
+// What is said of one point: done at a minute, watched, shut by a record (its number in the plan's file, 0 for none), held, or
+// offered from its Low.
 pub enum State {
     Done(u32),
     Watched,
-    Shut,
+    Shut(u32),
     Held,
     Offered(u32),
 }
@@ -47,16 +48,25 @@ pub enum Outcome {
     Offers,
 }
 
-// A reply: only an offer carries a latest minute and a list.
+// A reply: only an offer carries a latest minute; an offer, a waiting and a stuck board carry a list.
 pub struct Reply {
     pub outcome: Outcome,
     pub latest: u32,
     pub places: [Place; ROOM],
 }
 
-// A point's state in an offer.
-fn state_of(done: bool, minute: u32, watches: bool, opens: bool, low: u32, latest: u32) -> State
-    ensures { λ s. ⌜ s ≡ stateFrom done minute watches opens low latest ⌝ }
+// A point's state. Where nothing is offered, an open point is held.
+fn state_of(
+    done: bool,
+    minute: u32,
+    watches: bool,
+    opens: bool,
+    holder: u32,
+    offers: bool,
+    latest: u32,
+    low: u32,
+) -> State
+    ensures { λ s. ⌜ s ≡ stateFrom done minute watches opens holder offers latest low ⌝ }
 {
     if done {
         return State::Done(minute);
@@ -65,19 +75,21 @@ fn state_of(done: bool, minute: u32, watches: bool, opens: bool, low: u32, lates
         return State::Watched;
     }
     if !opens {
-        return State::Shut;
+        return State::Shut(holder);
     }
-    if latest < low {
+    if !offers | (latest < low) {
         return State::Held;
     }
     State::Offered(low)
 }
 
 // An outcome that carries nothing more.
-fn nothing_more(outcome: Outcome) -> Reply
+pub fn nothing_more(outcome: Outcome) -> Reply
     ensures { λ r. ⌜ r ≡ bare outcome ⌝ }
 {
-    let shut = Place { state: State::Shut };
+    let shut = Place {
+        state: State::Shut(0),
+    };
     let places = [shut; ROOM];
     Reply {
         outcome: outcome,
@@ -86,15 +98,25 @@ fn nothing_more(outcome: Outcome) -> Reply
     }
 }
 
-// An offer with its list.
-fn offer(board: Board, watches: u32, w: Windows, latest: u32) -> Reply
-    ensures { λ r. ⌜ r ≡ offerFrom board watches w latest ⌝ }
+// An outcome with its list.
+pub fn list(
+    outcome: Outcome,
+    board: Board,
+    watches: u32,
+    w: Windows,
+    offers: bool,
+    latest: u32,
+) -> Reply
+    ensures { λ r. ⌜ r ≡ listFrom outcome board watches w offers latest ⌝ }
 {
     let done = board.done;
     let minutes = board.minutes;
     let opens = w.opens;
+    let holders = w.holders;
     let lows = w.lows;
-    let shut = Place { state: State::Shut };
+    let shut = Place {
+        state: State::Shut(0),
+    };
     let mut places = [shut; ROOM];
     let mut p: u8 = 0;
     while p < MOST {
@@ -104,14 +126,16 @@ fn offer(board: Board, watches: u32, w: Windows, latest: u32) -> Reply
             minutes[at],
             has(watches, p),
             has(opens, p),
-            lows[at],
+            holders[at],
+            offers,
             latest,
+            lows[at],
         );
         places[at] = Place { state: state };
         p += 1;
     }
     Reply {
-        outcome: Outcome::Offers,
+        outcome: outcome,
         latest: latest,
         places: places,
     }
@@ -127,12 +151,19 @@ fn reply_sound(plan: Plan, board: Board, links: Links) -> Reply
     }
     let w = windows_of(plan, board, links);
     if is_stuck(plan, board, w) {
-        return nothing_more(Outcome::Stuck);
+        return list(Outcome::Stuck, board, links.watched, w, false, 0);
     }
     if w.opens == 0 {
-        return nothing_more(Outcome::Waiting);
+        return list(Outcome::Waiting, board, links.watched, w, false, 0);
     }
-    offer(board, links.watched, w, latest_of(board.clock, w.high))
+    list(
+        Outcome::Offers,
+        board,
+        links.watched,
+        w,
+        true,
+        latest_of(board.clock, w.high),
+    )
 }
 
 // What a board is: the plan's own refusal first, then 20, then the first outcome that fits.

@@ -22,6 +22,7 @@ use Rattle.board.specs.Boards.{minute, sound, isDone}
 use Rattle.board.specs.Windows.{isOpen, low, never}
 use Rattle.board.specs.Events.{noPoint, endsRunning}
 use Rattle.board.specs.declared.Board.{Board}
+use Rattle.board.proofs.Theorems.Why.{open-is}
 use Rattle.board.proofs.Theorems.Each.{clash, both}
 use Rattle.board.proofs.Theorems.Soundness.{Sound, sound-means}
 use Rattle.board.proofs.Theorems.Low.{low-near}
@@ -95,7 +96,7 @@ module _ (rs : List Record) (ok : Accepted rs) (b : Board) (g : Sound rs b) (fit
     lows-are q h =
         let e = greatest-barred (endsAt q) (shuts rs (b .done) q) (earliest rs (b .done) (b .minutes) q) rs (omega (arith, low-soon q)) in
         let f : getD lows q 0 ≡ max (b .clock) (if watched rs q || some (shuts rs (b .done) q) rs then never else greatest (earliest rs (b .done) (b .minutes) q) rs) = t .low-by q h ∙ ap (max (b .clock)) e in
-        go (ltb q (points rs)) (member (b .done) q) (watched rs q) (some (shuts rs (b .done) q) rs) (getD lows q 0) f
+        rw (open-is rs b q) (go (ltb q (points rs)) (member (b .done) q) (watched rs q) (some (shuts rs (b .done) q) rs) (getD lows q 0) f)
       where
         go : (n d v s : Bool) (x : ℕ) → x ≡ max (b .clock) (if v || s then never else greatest (earliest rs (b .done) (b .minutes) q) rs)
             → (if n && not d then x else never)

@@ -3,11 +3,11 @@ use mathlib.Core.Path.{_≡_, refl}
 use mathlib.Core.List.{List, [], _∷_}
 use Prim.Native.Nat.{ℕ}
 use Rattle.lines.specs.Text.{spelled, letters}
-use Rattle.text.specs.Words.{planWord, tailWord, endWord, keptWord, brokenWord, stuckWord, openWord, testWord, yesWord, cycleWord, pairWord, eventWord, boardWord, finishedWord, waitingWord, offersWord, pointWord, doneWord, watchedWord, shutWord, heldWord, offeredWord, refusedWord}
+use Rattle.text.specs.Words.{planWord, tailWord, endWord, keptWord, brokenWord, stuckWord, openWord, testWord, yesWord, cycleWord, pairWord, eventWord, boardWord, finishedWord, waitingWord, offersWord, pointWord, doneWord, watchedWord, shutWord, heldWord, offeredWord, refusedWord, ordinaryWord, waitWord}
 
 -- the words in the order of `Words`, and their letters
 all : List (List ℕ)
-all = letters planWord ∷ letters tailWord ∷ letters endWord ∷ letters keptWord ∷ letters brokenWord ∷ letters stuckWord ∷ letters openWord ∷ letters testWord ∷ letters yesWord ∷ letters cycleWord ∷ letters pairWord ∷ letters eventWord ∷ letters boardWord ∷ letters finishedWord ∷ letters waitingWord ∷ letters offersWord ∷ letters pointWord ∷ letters doneWord ∷ letters watchedWord ∷ letters shutWord ∷ letters heldWord ∷ letters offeredWord ∷ letters refusedWord ∷ []
+all = letters planWord ∷ letters tailWord ∷ letters endWord ∷ letters keptWord ∷ letters brokenWord ∷ letters stuckWord ∷ letters openWord ∷ letters testWord ∷ letters yesWord ∷ letters cycleWord ∷ letters pairWord ∷ letters eventWord ∷ letters boardWord ∷ letters finishedWord ∷ letters waitingWord ∷ letters offersWord ∷ letters pointWord ∷ letters doneWord ∷ letters watchedWord ∷ letters shutWord ∷ letters heldWord ∷ letters offeredWord ∷ letters refusedWord ∷ letters ordinaryWord ∷ letters waitWord ∷ []
 
 spelt : List (List ℕ)
 spelt =
@@ -34,6 +34,8 @@ spelt =
     ∷ (104 ∷ 101 ∷ 108 ∷ 100 ∷ [])
     ∷ (111 ∷ 102 ∷ 102 ∷ 101 ∷ 114 ∷ 101 ∷ 100 ∷ [])
     ∷ (114 ∷ 101 ∷ 102 ∷ 117 ∷ 115 ∷ 101 ∷ 100 ∷ [])
+    ∷ (111 ∷ 114 ∷ 100 ∷ 105 ∷ 110 ∷ 97 ∷ 114 ∷ 121 ∷ [])
+    ∷ (119 ∷ 97 ∷ 105 ∷ 116 ∷ [])
     ∷ []
 
 right : all ≡ spelt

@@ -1,6 +1,11 @@
 -- Document 01, "The printing program": each line that the programs print, from what it tells. Assumes nothing.
 use mathlib.Core.List.{List, [], _∷_}
-use Prim.Native.Nat.{ℕ}
+use Prim.Native.Nat.{ℕ, _+_}
+use lib.Dec.{eqb}
+use lib.IntN.{ℤ, pos, negsuc}
+use Rattle.numbers.specs.Choice.{if_then_else_}
+use Rattle.records.specs.Records.{ordinary, wait, is}
+use Rattle.records.specs.declared.Record.{Record}
 use Rattle.points.specs.Sets.{countOf}
 use Rattle.plan.specs.declared.Plan.{Plan}
 use Rattle.replies.specs.Replies.{replyOf}
@@ -17,11 +22,11 @@ use Rattle.verdict.specs.declared.Verdict.{Verdict}
 use Rattle.verdict.specs.declared.Verdict.the-variants as verdict
 use Rattle.vee.specs.declared.Answer.{Answer}
 use Rattle.vee.specs.declared.Answer.the-variants as answer
-use Rattle.text.specs.Words.{planWord, tailWord, endWord, keptWord, brokenWord, stuckWord, openWord, testWord, yesWord, cycleWord, pairWord, eventWord, boardWord, finishedWord, waitingWord, offersWord, pointWord, doneWord, watchedWord, shutWord, heldWord, offeredWord, refusedWord}
+use Rattle.text.specs.Words.{planWord, tailWord, endWord, keptWord, brokenWord, stuckWord, openWord, testWord, yesWord, cycleWord, pairWord, eventWord, boardWord, finishedWord, waitingWord, offersWord, pointWord, doneWord, watchedWord, shutWord, heldWord, offeredWord, refusedWord, ordinaryWord, waitWord}
 use Rattle.lines.specs.Text.{said}
 use Rattle.lines.specs.declared.Line.{Line}
 use Rattle.lines.specs.declared.Piece.{Piece}
-use Rattle.lines.specs.declared.Piece.the-variants.{Name, Number}
+use Rattle.lines.specs.declared.Piece.the-variants.{Name, Number, Below}
 
 -- plan NUMBER RECORD: a refused plan
 abbrev pub planLine : ℕ → ℕ → Line
@@ -35,9 +40,13 @@ numbersLine a b c d = said (Number a) (Number b ∷ Number c ∷ Number d ∷ []
 abbrev pub eventLine : ℕ → Taken → Line
 eventLine k t = numbersLine k (t .number) (t .board .clock) (countOf (t .board .done))
 
--- event K NUMBER
-abbrev pub replyLine : ℕ → ℕ → Line
-replyLine k n = said (Name eventWord) (Number k ∷ Number n ∷ [])
+-- the number of a record and what stands behind it; nothing for 0, which is no such record's
+abbrev pub recordAt : ℕ → List Piece → List Piece
+recordAt n ps = if eqb n 0 then [] else Number n ∷ ps
+
+-- event K NUMBER, and the record that the number names
+abbrev pub replyLine : ℕ → ℕ → ℕ → Line
+replyLine k n i = said (Name eventWord) (Number k ∷ Number n ∷ recordAt i [])
 
 -- test yes N, test cycle P, test pair P X Y, test NUMBER
 abbrev pub testLine : Answer → Line
@@ -59,17 +68,29 @@ abbrev pub boardLine : Board → Reply → Line
 boardLine b r =
     said (Name boardWord) (Number (b .clock) ∷ Number (countOf (b .done)) ∷ outcomePieces (r .outcome) (r .latest))
 
--- what an offer says of a point
-abbrev pub statePieces : State → List Piece
-statePieces (state.Done m) = Name doneWord ∷ Number m ∷ []
-statePieces state.Watched = Name watchedWord ∷ []
-statePieces state.Shut = Name shutWord ∷ []
-statePieces state.Held = Name heldWord ∷ []
-statePieces (state.Offered low) = Name offeredWord ∷ Number low ∷ []
+-- a signed number
+abbrev pub signedPiece : ℤ → Piece
+signedPiece (pos n) = Number n
+signedPiece (negsuc n) = Below (n + 1)
+
+-- a record as a listing has it: ordinary X D Y, wait V C W; no other kind keeps a point shut
+abbrev pub recordPieces : Record → List Piece
+recordPieces r =
+    if is ordinary r then Name ordinaryWord ∷ Number (r .a) ∷ signedPiece (r .first) ∷ Number (r .b) ∷ []
+    else if is wait r then Name waitWord ∷ Number (r .a) ∷ Number (r .b) ∷ signedPiece (r .first) ∷ []
+    else []
+
+-- what a reply says of a point, which the record r keeps shut where one does
+abbrev pub statePieces : State → Record → List Piece
+statePieces (state.Done m) r = Name doneWord ∷ Number m ∷ []
+statePieces state.Watched r = Name watchedWord ∷ []
+statePieces (state.Shut n) r = Name shutWord ∷ recordAt n (recordPieces r)
+statePieces state.Held r = Name heldWord ∷ []
+statePieces (state.Offered low) r = Name offeredWord ∷ Number low ∷ []
 
 -- point I POND and that
-abbrev pub pointLine : ℕ → ℕ → Place → Line
-pointLine i pond p = said (Name pointWord) (Number i ∷ Number pond ∷ statePieces (p .state))
+abbrev pub pointLine : ℕ → ℕ → Place → Record → Line
+pointLine i pond p r = said (Name pointWord) (Number i ∷ Number pond ∷ statePieces (p .state) r)
 
 -- tail: an unfinished last record
 abbrev pub tailLine : Line

@@ -70,3 +70,9 @@ offeredWord = 0x6465726566666f
 
 abbrev pub refusedWord : ℕ
 refusedWord = 0x64657375666572
+
+abbrev pub ordinaryWord : ℕ
+ordinaryWord = 0x7972616e6964726f
+
+abbrev pub waitWord : ℕ
+waitWord = 0x74696177

@@ -2,6 +2,9 @@
 // Document 01, "The printing program".
 ghost use mathlib.Core.Path.{_≡_};
 ghost use Rattle.text.specs.Lines.{planLine, eventLine, replyLine, testLine, boardLine, pointLine, tailLine, verdictLine, endLine, numbersLine};
+
+mod shut;
+
 use board::Board;
 use board::Taken;
 pub use lines::Line;
@@ -13,14 +16,17 @@ use lines::numbers;
 use lines::pair;
 use lines::state;
 use lines::state_at;
+use lines::three;
 use lines::two;
 use lines::word;
 use lines::words;
 use plan::Plan;
+use plan::Record;
 use replies::Outcome;
 use replies::Place;
 use replies::Reply;
 use replies::State;
+use shut::shut_line;
 use vee::Answer;
 use verdict::Verdict;
 
@@ -94,11 +100,14 @@ pub fn event_line(event: u64, taken: Taken) -> Line
     numbers_line(event, taken.number, board.clock, count)
 }
 
-// `event K NUMBER`: an event and its reply number.
-pub fn reply_line(event: u64, number: u32) -> Line
-    ensures { λ l. ⌜ l ≡ replyLine event number ⌝ }
+// `event K NUMBER`: an event and its reply number, and the record that it names, if it names one.
+pub fn reply_line(event: u64, number: u32, place: u32) -> Line
+    ensures { λ l. ⌜ l ≡ replyLine event number place ⌝ }
 {
-    numbers(EVENT, event, number as u64)
+    if place == 0 {
+        return numbers(EVENT, event, number as u64);
+    }
+    three(EVENT, event, number, place)
 }
 
 // What the plan test answers: `test yes N`, `test cycle P`, `test pair P X Y`, or `test NUMBER`.
@@ -129,15 +138,16 @@ pub fn board_line(board: Board, reply: Reply) -> Line
     }
 }
 
-// `point I POND` and what an offer says of the point, with the minute where it has one.
-pub fn point_line(point: u32, pond: u32, place: Place) -> Line
-    ensures { λ l. ⌜ l ≡ pointLine point pond place ⌝ }
+// `point I POND` and what a reply says of the point, with the minute where it has one, or the record that keeps it shut: its number,
+// which the reply has, and `reason`, the record itself.
+pub fn point_line(point: u32, pond: u32, place: Place, reason: Record) -> Line
+    ensures { λ l. ⌜ l ≡ pointLine point pond place reason ⌝ }
 {
     let said = place.state;
     match said {
         State::Done(minute) => state_at(POINT, point, pond, DONE, minute),
         State::Watched => state(POINT, point, pond, WATCHED),
-        State::Shut => state(POINT, point, pond, SHUT),
+        State::Shut(n) => shut_line(point, pond, n, reason),
         State::Held => state(POINT, point, pond, HELD),
         State::Offered(low) => state_at(POINT, point, pond, OFFERED, low),
     }

@@ -12,8 +12,10 @@ use Rattle.plan.specs.APlan.{some, points}
 use Rattle.records.specs.declared.Record.{Record}
 use Rattle.history.specs.History.{runs}
 use Rattle.links.specs.Inside.{setNumber}
+use Rattle.links.specs.declared.Links.{Links}
+use Rattle.plan.specs.declared.Refusal.{Refusal}
 use Rattle.events.specs.Fields.{eventMinute, eventPoint, noPoint, eventSet, wellFormed}
-use Rattle.lowhigh.specs.Rules.{never, isOpen, low, high}
+use Rattle.lowhigh.specs.Rules.{never, isOpen, holder, beside, low, high}
 use Rattle.windows.specs.declared.Windows.{Windows}
 
 -- the points of s that are not in t
@@ -26,11 +28,13 @@ unfoldable pub leastAt : List ℕ → List ℕ → ℕ
 leastAt highs [] = never
 leastAt highs (q ∷ qs) = min (getD highs q 0) (leastAt highs qs)
 
--- the windows: which points are open, each one's Low, and the least High of the open ones
+-- the windows: which points are open, which record keeps each of the others shut, each one's Low, and the least High of the
+-- open ones
 pub record WindowsOf (rs : List Record) (clock done : ℕ) (minutes : List ℕ) (w : Windows) : Type 0 where
   pub fits : w .opens < 2 ^ 32
   pub long : length (w .lows) ≡ mostPoints
   pub opens : (q : ℕ) → q < mostPoints → member (w .opens) q ≡ isOpen rs done q
+  pub holders : (q : ℕ) → q < mostPoints → getD (w .holders) q 0 ≡ holder rs done q
   pub lows : (q : ℕ) → q < mostPoints → getD (w .lows) q 0 ≡ low rs clock done minutes q
   pub highs : List ℕ
   pub high-by : (q : ℕ) → q < mostPoints → getD highs q 0 ≡ high rs done minutes q
@@ -54,13 +58,25 @@ pointFrom w m t p =
     else if not (eqb (w .opens) 0) && ltb m t then 30
     else 0
 
+-- q is a foreman's point not yet done, from the links
+abbrev pub foremanIn : Links → ℕ → ℕ → Bool
+foremanIn l done q = ltb q (l .points) && (not (member (l .watched) q) && not (member done q))
+
+-- the record beside the number n of an event for the point q, from the links and the windows
+abbrev pub besideFrom : Links → ℕ → Windows → ℕ → ℕ → ℕ
+besideFrom l done w q n = if eqb n 28 && foremanIn l done q then getD (w .holders) q 0 else 0
+
+abbrev pub refused : ℕ → ℕ → Refusal
+refused n i = record { number = n; place = i }
+
 -- 23 to 30 in order for the event s, or else 0
 unfoldable pub laterNumber : List Record → ℕ → ℕ → List ℕ → Windows → List ℕ → ℕ
 laterNumber rs clock done minutes w s =
     if not (wellFormed (points rs) s) then 23
     else setNumber rs clock done minutes (eventMinute s) (eventSet s) (pointFrom w (latestFrom clock (w .high)) (eventMinute s) (eventPoint s))
 
--- n is the number of the event s, 21 to 30 or else 0
-pub record Numbered (rs : List Record) (clock done : ℕ) (minutes s : List ℕ) (n : ℕ) : Type 0 where
+-- n is the number of the event s, 21 to 30 or else 0, and i the record beside it
+pub record Numbered (rs : List Record) (clock done : ℕ) (minutes s : List ℕ) (n i : ℕ) : Type 0 where
+  pub record-beside : i ≡ beside rs done (eventPoint s) n
   pub finished : eqb done (belowOf (points rs)) ≡ true → n ≡ 21
   pub windows : eqb done (belowOf (points rs)) ≡ false → (w : Windows) × WindowsOf rs clock done minutes w × (n ≡ (if stuckFrom rs done w then 22 else laterNumber rs clock done minutes w s))

@@ -1,4 +1,5 @@
-// What is asked of windows: whether a board of such windows is stuck, the latest, and an event's numbers 21 to 30.
+// What is asked of windows: whether a board of such windows is stuck, the latest, and an event's numbers 21 to 30 with the record
+// beside 28.
 ghost use mathlib.Core.Path.{_≡_};
 ghost use Prim.Native.Nat.{_+_, _≤_};
 ghost use lib.Dec.{ltb};
@@ -6,9 +7,10 @@ ghost use lib.ListN.{getD};
 ghost use Rattle.points.specs.Sets.{membersOf, every};
 ghost use Rattle.plan.specs.Limits.{farthest};
 ghost use Rattle.plan.specs.APlan.{recordsOf};
+ghost use Rattle.events.specs.Fields.{eventPoint};
 ghost use Rattle.links.specs.Inside.{LinksOf};
 ghost use Rattle.lowhigh.specs.Inside.{lastMinute, Given};
-ghost use Rattle.windows.specs.Inside.{stuckFrom, latestFrom, pointFrom, laterNumber, Numbered};
+ghost use Rattle.windows.specs.Inside.{stuckFrom, latestFrom, pointFrom, foremanIn, besideFrom, refused, laterNumber, Numbered};
 use crate::ALL_DONE;
 use crate::IS_STUCK;
 use crate::NOT_FORMED;
@@ -25,14 +27,16 @@ use history::Ask;
 use history::ROOM;
 use history::every_record;
 use history::first_points;
+use history::minute_at;
 use links::Links;
 use links::set_number;
 use lowhigh::FARTHEST;
+use lowhigh::either;
 use lowhigh::lesser;
 use lowhigh::past;
 use plan::ACCEPTED;
 use plan::Plan;
-use points::MOST;
+use plan::Refusal;
 use points::first;
 use points::has;
 use points::without;
@@ -49,7 +53,7 @@ fn is_above(high: u32, low: u32) -> bool
 }
 
 // Every open Low is above H.
-fn all_above(w: Windows) -> bool
+pub fn all_above(w: Windows) -> bool
     ensures { λ t. ⌜ t ≡ every (λ q. ltb (w .high) (getD (w .lows) q 0 + farthest)) (membersOf (w .opens)) ⌝ }
 {
     let lows = w.lows;
@@ -85,27 +89,16 @@ pub fn latest_of(clock: u32, high: u32) -> u32
     past(lesser(high, clock + FARTHEST + FARTHEST), FARTHEST)
 }
 
-// The Low of a point; one past the last place has 0.
-fn low_of(w: Windows, p: u8) -> u32
-    ensures { λ m. ⌜ m ≡ getD (w .lows) p 0 ⌝ }
-{
-    if p < MOST {
-        let place = p as usize;
-        w.lows[place]
-    } else {
-        0
-    }
-}
-
 // 28 to 30 in order, or else 0.
-fn point_number(w: Windows, latest: u32, e: Event) -> u32
+pub fn point_number(w: Windows, latest: u32, e: Event) -> u32
     ensures { λ n. ⌜ n ≡ pointFrom w latest (e .minute) (e .point) ⌝ }
 {
     let no_point = e.point == NO_POINT;
     if !(no_point | has(w.opens, e.point)) {
         return NOT_OPEN;
     }
-    if !(no_point | (low_of(w, e.point) <= e.minute)) {
+    let lows = w.lows;
+    if !(no_point | (minute_at(lows, e.point) <= e.minute)) {
         return TOO_EARLY;
     }
     if (w.opens != 0) & (latest < e.minute) {
@@ -114,7 +107,34 @@ fn point_number(w: Windows, latest: u32, e: Event) -> u32
     ACCEPTED
 }
 
-// 23 to 30 in order for an event, or else 0. The set changes nothing for 28 to 30: the windows are those before it.
+// A foreman's point not yet done.
+fn is_foremans(links: Links, done: u32, p: u8) -> bool
+    ensures { λ t. ⌜ t ≡ foremanIn links done p ⌝ }
+{
+    ((p as u32) < links.points) & (!has(links.watched, p) & !has(done, p))
+}
+
+// The record beside the number n of an event for the point p: beside 28 the one that keeps p shut, where p is a foreman's point
+// not yet done; else none.
+pub fn record_beside(links: Links, done: u32, w: Windows, p: u8, n: u32) -> u32
+    ensures { λ i. ⌜ i ≡ besideFrom links done w p n ⌝ }
+{
+    let holders = w.holders;
+    let names = (n == NOT_OPEN) & is_foremans(links, done, p);
+    either(names, minute_at(holders, p), 0)
+}
+
+// A number and the record beside it.
+pub fn refusal(number: u32, place: u32) -> Refusal
+    ensures { λ r. ⌜ r ≡ refused number place ⌝ }
+{
+    Refusal {
+        number: number,
+        place: place,
+    }
+}
+
+// 23 to 30 in order for an event, or else 0, with the record beside it. The set changes nothing for 28 to 30: the windows are those before it.
 fn later_number(
     plan: Plan,
     links: Links,
@@ -123,19 +143,21 @@ fn later_number(
     minutes: [u32; ROOM],
     w: Windows,
     event: &[u8],
-) -> u32
+) -> Refusal
     requires { ⌜ LinksOf (recordsOf plan) links × (clock ≤ lastMinute) ⌝ }
-    ensures { λ n. ⌜ n ≡ laterNumber (recordsOf plan) clock done minutes w (now (event .entry)) ⌝ }
+    ensures number { λ r. ⌜ r .number ≡ laterNumber (recordsOf plan) clock done minutes w (now (event .entry)) ⌝ }
+    ensures place { λ r. ⌜ r .place ≡ besideFrom links done w (eventPoint (now (event .entry))) (r .number) ⌝ }
 {
     if !is_formed(event, links.points) {
-        return NOT_FORMED;
+        return refusal(NOT_FORMED, 0);
     }
     let e = event_in(event);
-    let number = point_number(w, latest_of(clock, w.high), e);
-    set_number(plan, links, clock, done, minutes, e.minute, e.set, number)
+    let last = point_number(w, latest_of(clock, w.high), e);
+    let number = set_number(plan, links, clock, done, minutes, e.minute, e.set, last);
+    refusal(number, record_beside(links, done, w, e.point, number))
 }
 
-// 21 to 30 in order for an event, or else 0.
+// 21 to 30 in order for an event, or else 0, with the record beside it.
 pub fn event_number(
     plan: Plan,
     links: Links,
@@ -143,16 +165,16 @@ pub fn event_number(
     done: u32,
     minutes: [u32; ROOM],
     event: &[u8],
-) -> u32
+) -> Refusal
     requires { ⌜ Given plan links minutes × (clock ≤ lastMinute) ⌝ }
-    ensures { λ n. ⌜ Numbered (recordsOf plan) clock done minutes (now (event .entry)) n ⌝ }
+    ensures { λ r. ⌜ Numbered (recordsOf plan) clock done minutes (now (event .entry)) (r .number) (r .place) ⌝ }
 {
     if done == first_points(links.points) {
-        return ALL_DONE;
+        return refusal(ALL_DONE, 0);
     }
     let w = windows_of(plan, links, clock, done, minutes);
     if is_stuck(plan, clock, done, minutes, w) {
-        return IS_STUCK;
+        return refusal(IS_STUCK, 0);
     }
     later_number(plan, links, clock, done, minutes, w, event)
 }

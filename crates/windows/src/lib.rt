@@ -1,5 +1,5 @@
-// The windows of the foreman's points not yet done, from what has happened as plain values: which are open, each one's Low,
-// and H; then what is asked of them. A plan that `check` accepts and small minutes are assumed, so that every number fits.
+// The windows of the foreman's points not yet done, from what has happened as plain values: which are open, the record that
+// keeps each of the others shut, each one's Low, and H; then what is asked of them. A plan that `check` accepts and small minutes are assumed, so that every number fits.
 // High and H can be below zero, and are kept 100,000 up. An inner room: it serves `board` and the crates around it.
 ghost use mathlib.Core.Path.{_≡_};
 ghost use Rattle.points.specs.Sets.{membersOf};
@@ -9,9 +9,13 @@ ghost use Rattle.windows.specs.Inside.{WindowsOf, Minus, leastAt};
 
 mod asks;
 
+pub use asks::all_above;
 pub use asks::event_number;
 pub use asks::is_stuck;
 pub use asks::latest_of;
+pub use asks::point_number;
+pub use asks::record_beside;
+pub use asks::refusal;
 use history::ROOM;
 use history::first_points;
 use links::Links;
@@ -35,9 +39,11 @@ pub const TOO_EARLY: u32 = 29;
 
 pub const TOO_LATE: u32 = 30;
 
-// The foreman's points that may come, each point's Low, and H, 100,000 up.
+// The foreman's points that may come, the number of the first record that keeps each point shut and 0 for none, each point's
+// Low, and H, 100,000 up.
 pub struct Windows {
     pub opens: u32,
+    pub holders: [u32; ROOM],
     pub lows: [u32; ROOM],
     pub high: u32,
 }
@@ -70,6 +76,7 @@ pub fn windows_of(plan: Plan, links: Links, clock: u32, done: u32, minutes: [u32
     ensures { λ w. ⌜ WindowsOf (recordsOf plan) clock done minutes w ⌝ }
 {
     let tables = tables_of(plan, links, clock, done, minutes);
+    let holders = tables.holders;
     let lows = tables.lows;
     let highs = tables.highs;
     let foremans = minus(first_points(links.points), links.watched);
@@ -77,6 +84,7 @@ pub fn windows_of(plan: Plan, links: Links, clock: u32, done: u32, minutes: [u32
     let high = least_high(opens, highs);
     Windows {
         opens: opens,
+        holders: holders,
         lows: lows,
         high: high,
     }

@@ -7,7 +7,7 @@ use lib.IntN.{negsuc}
 use lib.Count.{ones}
 use lib.ListN.{set, replicate}
 use Rattle.plan.specs.Haul.{aPoint, aLink, anOrdinary, haul}
-use Rattle.plan.specs.APlan.{planOf, howMany, some, firstThat, recordsOf}
+use Rattle.plan.specs.APlan.{planOf, howMany, some, firstThat, placeFrom, recordsOf}
 use Rattle.plan.specs.ReplyNumbers.{refusal, checkWith, firstBadWith, numberForWith, lastKind}
 use Rattle.plan.specs.declared.Plan.{Plan}
 use Rattle.points.specs.Sets.{member, membersOf, withOf, belowOf, subsetOf, from, every, passing, firstOr}
@@ -51,11 +51,11 @@ begun = record { clock = 0; done = 1; minutes = replicate 32 0; calls = 1 ∷ re
 
 -- 1 and 2 are offered from 5 and 3 from 9: the aim is at 5, and the lowest number of those then
 yard-aim : aim (recordsOf yard) begun ≡ 5
-unfolding leastOf stateOf greatest least leastHigh member from every howMany some firstThat
+unfolding leastOf stateOf greatest least leastHigh member from every howMany some firstThat placeFrom
 yard-aim = refl
 
 yard-aimed : aimed (recordsOf yard) begun ≡ 1
-unfolding leastOf stateOf greatest least leastHigh member from passing firstOr howMany some firstThat
+unfolding leastOf stateOf greatest least leastHigh member from passing firstOr howMany some firstThat placeFrom
 yard-aimed = refl
 
 -- ---- the event
@@ -66,17 +66,17 @@ driving = record { clock = 10; done = 3; minutes = 0 ∷ 10 ∷ replicate 30 0; 
 
 -- a drive of 20 minutes ends before the aim, and comes first
 comes-before : nextEvent (recordsOf haul) (set unset 2 20) driving ≡ at 30 noPoint 4
-unfolding leastOf setOf stateOf greatest least leastHigh member withOf from passing firstOr howMany some firstThat
+unfolding leastOf setOf stateOf greatest least leastHigh member withOf from passing firstOr howMany some firstThat placeFrom
 comes-before = refl
 
 -- one of 35 ends on it, and goes into the same event
 comes-with : nextEvent (recordsOf haul) (set unset 2 35) driving ≡ at 45 3 4
-unfolding leastOf setOf stateOf greatest least leastHigh member withOf from passing firstOr howMany some firstThat
+unfolding leastOf setOf stateOf greatest least leastHigh member withOf from passing firstOr howMany some firstThat placeFrom
 comes-with = refl
 
 -- one of 50 ends after it
 comes-after : nextEvent (recordsOf haul) (set unset 2 50) driving ≡ at 45 3 0
-unfolding leastOf setOf stateOf greatest least leastHigh member withOf from passing firstOr howMany some firstThat
+unfolding leastOf setOf stateOf greatest least leastHigh member withOf from passing firstOr howMany some firstThat placeFrom
 comes-after = refl
 
 -- then nothing is open, and the event is the truck's
@@ -85,7 +85,7 @@ loaded =
     record { clock = 45; done = 11; minutes = 0 ∷ 10 ∷ 0 ∷ 45 ∷ replicate 28 0; calls = 1 ∷ 2 ∷ 0 ∷ 3 ∷ replicate 28 0 }
 
 comes-alone : nextEvent (recordsOf haul) (set unset 2 50) loaded ≡ at 60 noPoint 4
-unfolding leastOf setOf stateOf greatest least leastHigh member withOf from passing firstOr howMany some firstThat
+unfolding leastOf setOf stateOf greatest least leastHigh member withOf from passing firstOr howMany some firstThat placeFrom
 comes-alone = refl
 
 -- ---- the finishing minute
@@ -96,7 +96,7 @@ first-of-equal = refl
 
 -- the longest drive is done at 60, the clock of its last event
 haul-finishes : finishing haul (set unset 2 50) ≡ 60
-unfolding runFrom eventsFrom leastOf setOf firstOr ones takeOf eventNumber boardAfter markAll sound numbered each largest stateOf greatest least leastHigh member membersOf withOf belowOf subsetOf from every passing howMany some firstThat checkWith firstBadWith numberForWith lastKind
+unfolding runFrom eventsFrom leastOf setOf firstOr ones takeOf eventNumber boardAfter markAll sound numbered each largest stateOf greatest least leastHigh member membersOf withOf belowOf subsetOf from every passing howMany some firstThat placeFrom checkWith firstBadWith numberForWith lastKind
 haul-finishes = refl
 
 -- ---- refusals

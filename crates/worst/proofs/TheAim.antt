@@ -63,7 +63,7 @@ module _ (p : Plan) (ok : checkOf p .number ≡ 0) (b : Board) where
       go : (s : State) → stateOf rs b q ≡ s → isOffered s ≡ true → stateOf rs b q ≡ Offered (low rs b q)
       go (Done m) f e = clash (sym e)
       go Watched f e = clash (sym e)
-      go Shut f e = clash (sym e)
+      go (Shut i) f e = clash (sym e)
       go Held f e = clash (sym e)
       go (Offered m) f e = f ∙ ap Offered (sym (offers.offered rs b q m f .2))
 

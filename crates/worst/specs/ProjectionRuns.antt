@@ -25,7 +25,7 @@ use Rattle.promise.specs.Plays.{Event, eventBytes, leastOf, comesFirst}
 abbrev pub isOffered : State → Bool
 isOffered (Done m) = false
 isOffered Watched = false
-isOffered Shut = false
+isOffered (Shut i) = false
 isOffered Held = false
 isOffered (Offered m) = true
 

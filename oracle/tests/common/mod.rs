@@ -103,10 +103,11 @@ pub fn numbered(mut board: Board, numbers: &[u32]) -> Board {
     board
 }
 
-/// The number for an event; a refused one must hand back the same board.
+/// The number for an event; a refused one must hand back the same board, and only 28 may have a record.
 pub fn number(plan: &Plan, before: &Board, event: &[u8]) -> u32 {
-    let (number, after) = take(plan, before, event);
+    let ((number, record), after) = take(plan, before, event);
     assert_eq!(number != 0, after == *before);
+    assert!(number == 28 || record == 0);
     number
 }
 
@@ -114,8 +115,8 @@ pub fn number(plan: &Plan, before: &Board, event: &[u8]) -> u32 {
 pub fn after(plan: &Plan, start: &Board, events: &[[u8; 16]]) -> Board {
     let mut now = *start;
     for event in events {
-        let (number, next) = take(plan, &now, event);
-        assert_eq!(number, 0);
+        let (refusal, next) = take(plan, &now, event);
+        assert_eq!(refusal, (0, 0));
         now = next;
     }
     now

@@ -5,7 +5,8 @@ use mathlib.Core.Path.{sym, _∙_}
 use Rattle.plan.specs.APlan.{recordsOf}
 use Rattle.board.proofs.Theorems.Soundness.{sound-means}
 use Rattle.board.proofs.Replying.{nothing-open, something-open, clock-small}
-use Rattle.replies.proofs.Replying.{offer-here, reply-finished, reply-stuck, reply-waiting, reply-offers}
+use Rattle.replies.proofs.Replying.{offer-here, standing-here, reply-finished, reply-stuck, reply-waiting, reply-offers}
+use Rattle.replies.specs.declared.Outcome.the-variants.{Stuck, Waiting}
 use Rattle.replies.proofs.reply_sound.Statement.{statement}
 use Rattle.replies.proofs.reply_sound.Tie as tie
 
@@ -28,26 +29,29 @@ windows-of-requires c κs = search needs
 is-stuck-requires : tie.Need-is-stuck-requires
 is-stuck-requires c κs = search needs
 
-nothing-more-requires-2 : tie.Need-nothing-more-requires-2
-nothing-more-requires-2 c κs = search needs
+list-requires : tie.Need-list-requires
+list-requires c κs = search needs
 
 returns-2 : tie.Need-returns-2
 returns-2 c =
     let s = c .before .before .before .before .before .before in
     let rs = recordsOf (s .args .plan) in
     let b = s .args .board in
-    c .nothing-more2 .ensures ∙ reply-stuck rs b (sym (c .before .before .before .before .before .is-finished .ensures) ∙ c .before .before .before .before .if1 .left) (sym (c .before .before .is-stuck .ensures) ∙ c .before .if2 .taken)
+    let e = standing-here rs b _ (s .pre .links) _ (c .before .before .before .windows-of .ensures) Stuck in
+    c .list .ensures ∙ e ∙ reply-stuck rs b (sym (c .before .before .before .before .before .is-finished .ensures) ∙ c .before .before .before .before .if1 .left) (sym (c .before .before .is-stuck .ensures) ∙ c .before .if2 .taken)
 
-nothing-more-requires-3 : tie.Need-nothing-more-requires-3
-nothing-more-requires-3 c κs = search needs
+list-requires-2 : tie.Need-list-requires-2
+list-requires-2 c κs = search needs
 
 returns-3 : tie.Need-returns-3
 returns-3 c =
     let s = c .before .before .before .before .before .before .before .before in
     let rs = recordsOf (s .args .plan) in
     let b = s .args .board in
-    let o = nothing-open rs b _ (c .before .before .before .before .before .windows-of .ensures) (c .before .if3 .taken) in
-    c .nothing-more3 .ensures ∙ reply-waiting rs b (sym (c .before .before .before .before .before .before .before .is-finished .ensures) ∙ c .before .before .before .before .before .before .if1 .left) (sym (c .before .before .before .before .is-stuck .ensures) ∙ c .before .before .before .if2 .left) o
+    let w = c .before .before .before .before .before .windows-of .ensures in
+    let o = nothing-open rs b _ w (c .before .if3 .taken) in
+    let e = standing-here rs b _ (s .pre .links) _ w Waiting in
+    c .list2 .ensures ∙ e ∙ reply-waiting rs b (sym (c .before .before .before .before .before .before .before .is-finished .ensures) ∙ c .before .before .before .before .before .before .if1 .left) (sym (c .before .before .before .before .is-stuck .ensures) ∙ c .before .before .before .if2 .left) o
 
 latest-of-requires : tie.Need-latest-of-requires
 latest-of-requires c κs =
@@ -56,8 +60,8 @@ latest-of-requires c κs =
     let b = s .args .board in
     clock-small rs b (sound-means rs b (s .pre .sound)) (omega (arith, s .good .1 .0 .1 .1 .1 .0 .1))
 
-offer-requires : tie.Need-offer-requires
-offer-requires c κs = search needs
+list-requires-3 : tie.Need-list-requires-3
+list-requires-3 c κs = search needs
 
 returns-4 : tie.Need-returns-4
 returns-4 c =
@@ -67,7 +71,7 @@ returns-4 c =
     let w = c .before .before .before .before .before .before .windows-of .ensures in
     let o = something-open rs b _ w (c .before .before .if3 .left) in
     let e = offer-here rs b _ (s .pre .links) _ w _ (c .before .latest-of .ensures) in
-    c .offer .ensures ∙ e ∙ reply-offers rs b (sym (c .before .before .before .before .before .before .before .before .is-finished .ensures) ∙ c .before .before .before .before .before .before .before .if1 .left) (sym (c .before .before .before .before .before .is-stuck .ensures) ∙ c .before .before .before .before .if2 .left) o
+    c .list3 .ensures ∙ e ∙ reply-offers rs b (sym (c .before .before .before .before .before .before .before .before .is-finished .ensures) ∙ c .before .before .before .before .before .before .before .if1 .left) (sym (c .before .before .before .before .before .is-stuck .ensures) ∙ c .before .before .before .before .if2 .left) o
 
 pub reply-sound-spec : {M : Type 1} → statement M
 reply-sound-spec =
@@ -78,10 +82,10 @@ reply-sound-spec =
     returns
     windows-of-requires
     is-stuck-requires
-    nothing-more-requires-2
+    list-requires
     returns-2
-    nothing-more-requires-3
+    list-requires-2
     returns-3
     latest-of-requires
-    offer-requires
+    list-requires-3
     returns-4)

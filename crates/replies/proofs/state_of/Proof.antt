@@ -1,5 +1,5 @@
 -- `replies::state_of` meets its contract. Assumes nothing.
-use borrow.Author.Tests.{lt-ltb, le-ltb, not-true, not-false}
+use borrow.Author.Tests.{not-true, not-false}
 use Rattle.replies.specs.Inside.{stateFrom}
 use Rattle.replies.proofs.state_of.Statement.{statement}
 use Rattle.replies.proofs.state_of.Tie as tie
@@ -18,11 +18,11 @@ returns-3 c = rw (c .before .before .if1 .left, c .before .if2 .left, not-true (
 
 returns-4 : tie.Need-returns-4
 unfolding stateFrom
-returns-4 c = rw (c .before .before .before .if1 .left, c .before .before .if2 .left, not-false (c .before .before .before .before .args .opens) (c .before .if3 .left), lt-ltb _ _ (c .if4 .taken))
+returns-4 c = rw (c .before .before .before .if1 .left, c .before .before .if2 .left, not-false (c .before .before .before .before .args .opens) (c .before .if3 .left), c .if4 .taken)
 
 returns-5 : tie.Need-returns-5
 unfolding stateFrom
-returns-5 c = rw (c .before .before .before .if1 .left, c .before .before .if2 .left, not-false (c .before .before .before .before .args .opens) (c .before .if3 .left), le-ltb _ _ (c .if4 .left))
+returns-5 c = rw (c .before .before .before .if1 .left, c .before .before .if2 .left, not-false (c .before .before .before .before .args .opens) (c .before .if3 .left), c .if4 .left)
 
 pub state-of-spec : {M : Type 1} → statement M
 state-of-spec = tie.close (tie.spec returns returns-2 returns-3 returns-4 returns-5)

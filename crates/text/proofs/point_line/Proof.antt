@@ -1,4 +1,5 @@
 -- `text::point_line` meets its contract. Assumes nothing.
+use native.Mathlib.Omega.{arith}
 use borrow.Author.Needs.{needs}
 use Rattle.text.proofs.point_line.Statement.{statement}
 use Rattle.text.proofs.point_line.Tie as tie
@@ -15,20 +16,20 @@ enum-told c = search needs
 state-requires : tie.Need-state-requires
 state-requires c κs = search needs
 
+enum-known-said-2 : tie.Need-enum-known-said-2
+enum-known-said-2 c = search needs
+
+shut-line-requires : tie.Need-shut-line-requires
+shut-line-requires c κs = search needs
+
 enum-told-2 : tie.Need-enum-told-2
 enum-told-2 c = search needs
 
 state-requires-2 : tie.Need-state-requires-2
 state-requires-2 c κs = search needs
 
-enum-told-3 : tie.Need-enum-told-3
-enum-told-3 c = search needs
-
-state-requires-3 : tie.Need-state-requires-3
-state-requires-3 c κs = search needs
-
-enum-known-said-2 : tie.Need-enum-known-said-2
-enum-known-said-2 c = search needs
+enum-known-said-3 : tie.Need-enum-known-said-3
+enum-known-said-3 c = search needs
 
 state-at-requires-2 : tie.Need-state-at-requires-2
 state-at-requires-2 c κs = search needs
@@ -40,13 +41,13 @@ returns-2 : tie.Need-returns-2
 returns-2 c = rw (c .before .enum-told .given .1) (c .state .ensures)
 
 returns-3 : tie.Need-returns-3
-returns-3 c = rw (c .before .enum-told2 .given .1) (c .state2 .ensures)
+returns-3 c = rw (c .before .before .said2 .given .1) (c .shut-line .ensures)
 
 returns-4 : tie.Need-returns-4
-returns-4 c = rw (c .before .enum-told3 .given .1) (c .state3 .ensures)
+returns-4 c = rw (c .before .enum-told2 .given .1) (c .state2 .ensures)
 
 returns-5 : tie.Need-returns-5
-returns-5 c = rw (c .before .before .said2 .given .1) (c .state-at2 .ensures)
+returns-5 c = rw (c .before .before .said3 .given .1) (c .state-at2 .ensures)
 
 pub point-line-spec : {M : Type 1} → statement M
 point-line-spec =
@@ -56,11 +57,11 @@ point-line-spec =
     state-at-requires
     enum-told
     state-requires
+    enum-known-said-2
+    shut-line-requires
     enum-told-2
     state-requires-2
-    enum-told-3
-    state-requires-3
-    enum-known-said-2
+    enum-known-said-3
     state-at-requires-2
     returns
     returns-2

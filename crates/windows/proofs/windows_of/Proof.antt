@@ -26,15 +26,16 @@ least-high-requires c κs = search needs
 
 returns : tie.Need-returns
 returns c =
-    let s = c .before .before .before .before .before .before .before .before in
+    let s = c .before .before .before .before .before .before .before .before .before in
     let rs = recordsOf (s .args .plan) in
-    let t = c .before .before .before .before .before .before .before .tables-of .ensures in
+    let t = c .before .before .before .before .before .before .before .before .tables-of .ensures in
     let one = rw (c .before .before .before .before .first-points .ensures, s .pre .links .points) at (c .before .before .before .minus .ensures) in
     let opens = opens-here rs (s .args .done) (accepted-plan (s .args .plan) (s .pre .accepted) .few) _ (s .pre .links .watches) _ (t .shut-by) _ _ _ one (c .before .before .minus2 .ensures) (c .before .minus3 .ensures) in
     record {
       fits = c .before .minus3 .ensures .fits;
       long = t .long-lows;
       opens = opens;
+      holders = t .held-by;
       lows = t .low-by;
       highs = _;
       high-by = t .high-by;

@@ -6,7 +6,7 @@ use Rattle.plan.proofs.Accepted.{accepted-plan}
 use Rattle.board.proofs.Opening.{given}
 use Rattle.board.proofs.Theorems.Soundness.{sound-means}
 use Rattle.board.proofs.Replying.{clock-small}
-use Rattle.board.proofs.Taking.{number-here}
+use Rattle.board.proofs.Taking.{number-here, record-here}
 use Rattle.board.proofs.event.event_number.Statement.{statement}
 use Rattle.board.proofs.event.event_number.Tie as tie
 
@@ -21,7 +21,9 @@ returns : tie.Need-returns
 returns c =
     let s = c .before .before .before in
     let a = s .args in
-    number-here (recordsOf (a .plan)) (a .board) (a .event .now) (accepted-plan (a .plan) (s .pre .accepted) .few) _ (c .event-number .ensures)
+    let few = accepted-plan (a .plan) (s .pre .accepted) .few in
+    let n = c .event-number .ensures in
+    (number-here (recordsOf (a .plan)) (a .board) (a .event .now) few _ _ n, record-here (recordsOf (a .plan)) (a .board) (a .event .now) few _ _ n)
 
 pub event-number-spec : {M : Type 1} → statement M
 event-number-spec = tie.close (tie.spec event-number-requires returns)

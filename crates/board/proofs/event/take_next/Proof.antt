@@ -1,13 +1,12 @@
 -- `board::event::take_next` meets its contract. Assumes nothing.
 use native.Mathlib.Omega.{arith}
 use borrow.Author.Needs.{needs}
-use mathlib.Core.Path.{_≡_, ap, _∙_}
-use Prim.Native.Nat.{ℕ, _+_}
+use mathlib.Core.Path.{_≡_, sym, _∙_}
+use Prim.Native.Nat.{_+_}
 use lib.ListN.{length-map}
 use Rattle.plan.specs.APlan.{points, recordsOf}
 use Rattle.events.proofs.Forming.{formed-length}
 use Rattle.board.specs.Calls.{nextCall}
-use Rattle.board.specs.Events.{taken}
 use Rattle.board.proofs.Taking.{taken-formed, next-refused, next-taken}
 use Rattle.board.proofs.Theorems.Soundness.{HeldBoard, few-calls}
 use Rattle.board.proofs.Streaming.{next-sound}
@@ -22,15 +21,15 @@ answer-requires c κs = search needs
 
 returns : tie.Need-returns
 returns c =
-    let a = c .before .before .before .before .args in
-    let n = rw (c .before .before .event-number .ensures) at (c .before .if1 .taken) in
-    let e = c .answer .ensures ∙ ap (λ (k : ℕ). taken k 0 (a .board)) (c .before .before .event-number .ensures) ∙ next-refused (recordsOf (a .plan)) (a .board) (a .event .now) n in
-    (e, rw (c .answer .ensures) (c .before .before .before .before .pre .sound))
+    let s = c .before .before .before .before .before in
+    let n = c .before .before .before .event-number .ensures in
+    let e = c .answer .ensures ∙ next-refused (recordsOf (s .args .plan)) (s .args .board) (s .args .event .now) _ _ (n .0) (n .1) (c .before .if1 .taken) in
+    (e, rw (c .answer .ensures) (s .pre .sound))
 
 event-in-requires : tie.Need-event-in-requires
 event-in-requires c κs =
-    let a = c .before .before .before .args in
-    let n = rw (c .before .event-number .ensures) at (c .if1 .left) in
+    let a = c .before .before .before .before .args in
+    let n = sym (c .before .before .event-number .ensures .0) ∙ c .if1 .left in
     omega (arith, formed-length (points (recordsOf (a .plan))) (a .event .now) (taken-formed (recordsOf (a .plan)) (a .board) (a .event .now) n))
 
 last-done-requires : tie.Need-last-done-requires
@@ -38,7 +37,7 @@ last-done-requires c κs = search needs
 
 add-n : tie.Need-add-n
 add-n c =
-    let q = c .before .before .before .before .before .before in
+    let q = c .before .before .before .before .before .before .before in
     let d = q .good .1 .0 .1 .1 .1 .0 .1 in
     omega (arith, c .last-done .ensures, few-calls (recordsOf (q .args .plan)) (q .args .board) (q .pre .sound) (omega arith))
 
@@ -50,10 +49,10 @@ answer-requires-2 c κs = search needs
 
 returns-2 : tie.Need-returns-2
 returns-2 c =
-    let q = c .before .before .before .before .before .before .before .before in
+    let q = c .before .before .before .before .before .before .before .before .before in
     let a = q .args in
     let g = q .good .1 .0 .1 .1 .1 in
-    let n = rw (c .before .before .before .before .before .before .event-number .ensures) at (c .before .before .before .before .before .if1 .left) in
+    let n = sym (c .before .before .before .before .before .before .before .event-number .ensures .0) ∙ c .before .before .before .before .before .if1 .left in
     let t = rw (c .before .after .ensures, c .before .before .before .before .event-in .ensures .0) at (c .answer2 .ensures) in
     let m : c .before .before .last-done .result + 1 ≡ nextCall (a .board) = omega (arith, c .before .before .last-done .ensures) in
     let e = t ∙ next-taken (recordsOf (a .plan)) (a .board) (a .event .now) n _ m in

@@ -42,11 +42,11 @@ part-take-next-end c = search needs
 take-next-requires : tie.Need-take-next-requires Inv-loop μ-loop
 take-next-requires c κs = search needs
 
-mul-put-three : tie.Need-mul-put-three Inv-loop μ-loop
-mul-put-three c = search needs
+mul-put-four : tie.Need-mul-put-four Inv-loop μ-loop
+mul-put-four c = search needs
 
-put-three-requires : tie.Need-put-three-requires Inv-loop μ-loop
-put-three-requires c κs = search needs
+put-four-requires : tie.Need-put-four-requires Inv-loop μ-loop
+put-four-requires c κs = search needs
 
 add-i : tie.Need-add-i Inv-loop μ-loop
 add-i c = search needs
@@ -62,7 +62,7 @@ loop-again c =
     let t = c .before .before .before .before .before .take-next in
     let n : recordBytes * k + recordBytes - recordBytes * k ≡ recordBytes = omega arith in
     let e = take-is-next (s .args .plan) (c .before .before .before .before .before .before .before .before .loop .now) _ (i .4 .accepted) (i .4 .sound) ∙ sym (rw n at (t .ensures .0)) in
-    (omega arith, i .1, i .2, c .before .before .put-three .kept .0 ∙ i .3, record { accepted = i .4 .accepted; sound = t .ensures .1; links = i .4 .links }, rw (c .before .before .put-three .ensures) (went-more (s .args .plan) _ _ _ _ k _ _ (i .5) (c .before .before .before .before .before .before .before .loop-test .taken) (i .2) _ e))
+    (omega arith, i .1, i .2, c .before .before .put-four .kept .0 ∙ i .3, record { accepted = i .4 .accepted; sound = t .ensures .1; links = i .4 .links }, rw (c .before .before .put-four .ensures) (went-more (s .args .plan) _ _ _ _ k _ _ (i .5) (c .before .before .before .before .before .before .before .loop-test .taken) (i .2) _ e))
 
 same-length : tie.Need-same-length Inv-loop μ-loop
 same-length c = search needs
@@ -86,8 +86,8 @@ take-each-spec =
     part-take-next-start
     part-take-next-end
     take-next-requires
-    mul-put-three
-    put-three-requires
+    mul-put-four
+    put-four-requires
     add-i
     loop-less
     loop-again

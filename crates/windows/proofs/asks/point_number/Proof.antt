@@ -11,24 +11,23 @@ returns : tie.Need-returns
 unfolding pointFrom
 returns c = rw (rw (c .before .has .ensures) at (c .if1 .taken))
 
-low-of-requires : tie.Need-low-of-requires
-low-of-requires c κs = search needs
+minute-at-requires : tie.Need-minute-at-requires
+minute-at-requires c κs = search needs
 
 returns-2 : tie.Need-returns-2
 unfolding pointFrom
-returns-2 c =
-    rw (rw (c .before .before .before .before .has .ensures) at (c .before .before .before .if1 .left), rw (c .before .before .low-of .ensures) at (c .if2 .taken))
+returns-2 c = rw (rw (c .before .before .before .before .before .has .ensures) at (c .before .before .before .before .if1 .left), rw (c .before .before .minute-at .ensures) at (c .if2 .taken))
 
 returns-3 : tie.Need-returns-3
 unfolding pointFrom
 returns-3 c =
-    rw (rw (c .before .before .before .before .before .before .before .has .ensures) at (c .before .before .before .before .before .before .if1 .left), rw (c .before .before .before .before .before .low-of .ensures) at (c .before .before .before .if2 .left), c .if3 .taken)
+    rw (rw (c .before .before .before .before .before .before .before .before .has .ensures) at (c .before .before .before .before .before .before .before .if1 .left), rw (c .before .before .before .before .before .minute-at .ensures) at (c .before .before .before .if2 .left), c .if3 .taken)
 
 returns-4 : tie.Need-returns-4
 unfolding pointFrom
 returns-4 c =
-    rw (rw (c .before .before .before .before .before .before .before .has .ensures) at (c .before .before .before .before .before .before .if1 .left), rw (c .before .before .before .before .before .low-of .ensures) at (c .before .before .before .if2 .left), c .if3 .left)
+    rw (rw (c .before .before .before .before .before .before .before .before .has .ensures) at (c .before .before .before .before .before .before .before .if1 .left), rw (c .before .before .before .before .before .minute-at .ensures) at (c .before .before .before .if2 .left), c .if3 .left)
 
 pub point-number-spec : {M : Type 1} → statement M
 point-number-spec =
-    tie.close (tie.spec has-requires returns low-of-requires returns-2 returns-3 returns-4)
+    tie.close (tie.spec has-requires returns minute-at-requires returns-2 returns-3 returns-4)

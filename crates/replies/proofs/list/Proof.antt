@@ -1,24 +1,23 @@
--- `replies::offer` meets its contract. Assumes nothing.
+-- `replies::list` meets its contract. Assumes nothing.
 use borrow.Author.Needs.{needs}
 use native.Mathlib.Omega.{arith}
 use mathlib.Core.Path.{ap}
 use mathlib.Core.List.{List, []}
 use Prim.Native.Nat.{_≤_, _-_}
 use Rattle.replies.specs.declared.Place.{Place}
-use Rattle.replies.specs.declared.Outcome.the-variants.{Offers}
 use Rattle.plan.specs.Limits.{mostPoints}
 use Rattle.replies.specs.Inside.{placeFrom}
 use Rattle.replies.proofs.Replying.{Listed, listed-start, listed-turn, listed-end}
-use Rattle.replies.proofs.offer.Statement.{statement}
-use Rattle.replies.proofs.offer.Tie as tie
+use Rattle.replies.proofs.list.Statement.{statement}
+use Rattle.replies.proofs.list.Tie as tie
 
 abbrev Inv-loop : tie.InvT-loop
-Inv-loop watches latest done minutes opens lows places₀ p₀ places p =
+Inv-loop outcome watches offers latest done minutes opens holders lows places₀ p₀ places p =
     (p ≤ mostPoints)
-    × Listed (placeFrom (record { clock = 0; done = done; minutes = minutes; calls = [] }) watches (record { opens = opens; lows = lows; high = 0 }) latest) p places
+    × Listed (placeFrom (record { clock = 0; done = done; minutes = minutes; calls = [] }) watches (record { opens = opens; holders = holders; lows = lows; high = 0 }) offers latest) p places
 
 abbrev μ-loop : tie.MeasureT-loop
-μ-loop watches latest done minutes opens lows places₀ p₀ places p = mostPoints - p
+μ-loop outcome watches offers latest done minutes opens holders lows places₀ p₀ places p = mostPoints - p
 
 loop-holds : tie.Need-loop-holds Inv-loop μ-loop
 loop-holds c = (omega arith, listed-start _)
@@ -47,6 +46,12 @@ mul-state-of-2 c = search needs
 array-read-state-of-2 : tie.Need-array-read-state-of-2 Inv-loop μ-loop
 array-read-state-of-2 c = search needs
 
+mul-state-of-3 : tie.Need-mul-state-of-3 Inv-loop μ-loop
+mul-state-of-3 c = search needs
+
+array-read-state-of-3 : tie.Need-array-read-state-of-3 Inv-loop μ-loop
+array-read-state-of-3 c = search needs
+
 state-of-requires : tie.Need-state-of-requires Inv-loop μ-loop
 state-of-requires c κs = search needs
 
@@ -69,12 +74,12 @@ loop-again c =
 
 returns : tie.Need-returns Inv-loop μ-loop
 returns c =
-    let m = c .before .before .before .before .args .latest in
+    let a = c .before .before .before .before .before .args in
     let i = c .before .loop .inv in
-    ap (λ (ps : List Place). record { outcome = Offers; latest = m; places = ps }) (listed-end _ _ _ (i .1) (c .loop-test .left))
+    ap (λ (ps : List Place). record { outcome = a .outcome; latest = a .latest; places = ps }) (listed-end _ _ _ (i .1) (c .loop-test .left))
 
-pub offer-spec : {M : Type 1} → statement M
-offer-spec =
+pub list-spec : {M : Type 1} → statement M
+list-spec =
     tie.close
     (tie.spec
     Inv-loop
@@ -88,6 +93,8 @@ offer-spec =
     has-requires-3
     mul-state-of-2
     array-read-state-of-2
+    mul-state-of-3
+    array-read-state-of-3
     state-of-requires
     mul-places
     array-set-from-places

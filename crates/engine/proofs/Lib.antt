@@ -1,0 +1,2 @@
+-- The proofs of the engine that belong to no one function.
+mod Reading

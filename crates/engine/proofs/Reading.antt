@@ -2,7 +2,7 @@
 use mathlib.Core.Path.{_≡_, refl, ap, _∙_, sym}
 use mathlib.Core.Bool.{true}
 use mathlib.Core.List.{List}
-use Prim.Native.Nat.{ℕ, suc, _+_, _<_, _≤_}
+use Prim.Native.Nat.{ℕ, suc, _+_, _^_, _<_, _≤_}
 use native.Mathlib.Omega.{arith}
 use native.Mathlib.Decide.{ℕ-discrete}
 use borrow.Author.Tests.{eq-eqb, ne-eqb}
@@ -13,6 +13,7 @@ use Rattle.plan.specs.Choice.{if_then_else_}
 use Rattle.plan.specs.Limits.{mostPoints, recordBytes}
 use Rattle.plan.specs.declared.Refusal.{Refusal}
 use Rattle.links.specs.declared.Links.{Links}
+use Rattle.events.specs.Fields.{eventSet}
 use Rattle.events.specs.Inside.{eventIn}
 use Rattle.events.proofs.Forming.{formed-length}
 use Rattle.planless.proofs.Numbering.{taken-formed}
@@ -48,8 +49,8 @@ module _ (l : Links) (rows into out ends kept s : List ℕ) (r : Refusal) (n : N
       let e : r .number ≡ _ = ap (λ (f : Refusal). f .number) (n .found) in
       omega (arith, formed-length (l .points) s (taken-formed l (b .clock) (b .done) (b .minutes) (n .windows) s (rw e at z)))
 
-  pub takes : (kept′ : List ℕ) → r .number ≡ 0 → kept′ ≡ eventDoneBy rows into out ends (eventIn s) kept → TakesWith l rows into out ends kept s r kept′
-  takes kept′ z e = record { numbers = n; after = rw (eq-eqb (r .number) 0 z) e }
+  pub takes : (kept′ : List ℕ) → r .number ≡ 0 → eventSet s < 2 ^ 32 → kept′ ≡ eventDoneBy rows into out ends (eventIn s) kept → TakesWith l rows into out ends kept s r kept′
+  takes kept′ z f e = record { numbers = n; fits = λ h. f; after = rw (eq-eqb (r .number) 0 z) e }
 
   pub refuses : (r .number ≡ 0 → ⊥) → TakesWith l rows into out ends kept s r kept
-  refuses h = record { numbers = n; after = rw (ne-eqb (r .number) 0 h) }
+  refuses h = record { numbers = n; fits = λ z. absurd (h z); after = rw (ne-eqb (r .number) 0 h) }

@@ -2,13 +2,14 @@
 -- may hold any numbers; l are the links that are handed in, s the event's bytes. Assumes nothing.
 use mathlib.Core.Path.{_≡_}
 use mathlib.Core.List.{List}
-use Prim.Native.Nat.{ℕ, _+_, _<_}
+use Prim.Native.Nat.{ℕ, _+_, _^_, _<_}
 use lib.Dec.{eqb}
 use lib.ListN.{length, getD}
 use Rattle.plan.specs.Choice.{if_then_else_}
 use Rattle.plan.specs.Limits.{mostPoints}
 use Rattle.plan.specs.declared.Refusal.{Refusal}
 use Rattle.links.specs.declared.Links.{Links}
+use Rattle.events.specs.Fields.{eventSet}
 use Rattle.events.specs.Inside.{eventIn}
 use Rattle.windows.specs.declared.Windows.{Windows}
 use Rattle.board.specs.declared.Board.{Board}
@@ -41,6 +42,7 @@ pub record NumbersWith (l : Links) (rows out kept s : List ℕ) (r : Refusal) : 
 -- and the room after it: a refused event leaves every number as it was
 pub record TakesWith (l : Links) (rows into out ends kept₀ s : List ℕ) (r : Refusal) (kept : List ℕ) : Type 0 where
   pub numbers : NumbersWith l rows out kept₀ s r
+  pub fits : r .number ≡ 0 → eventSet s < 2 ^ 32
   pub after : kept ≡ (if eqb (r .number) 0 then eventDoneBy rows into out ends (eventIn s) kept₀ else kept₀)
 
 -- the reply

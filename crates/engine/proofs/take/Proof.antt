@@ -17,7 +17,7 @@ do-event-requires c κs = search needs
 returns : tie.Need-returns
 returns c =
     let a = c .before .before .before .before .before .before .before .before .args in
-    takes (a .links) (a .rows .now) (a .into .now) (a .out .now) (a .ends .now) (a .kept .now) (a .event .now) _ (c .before .before .before .before .before .number-of .ensures) _ (c .before .before .before .if1 .taken) (rw (c .before .before .event-in .ensures .0) at (c .do-event .ensures))
+    takes (a .links) (a .rows .now) (a .into .now) (a .out .now) (a .ends .now) (a .kept .now) (a .event .now) _ (c .before .before .before .before .before .number-of .ensures) _ (c .before .before .before .if1 .taken) (c .before .before .event-in .ensures .1) (rw (c .before .before .event-in .ensures .0) at (c .do-event .ensures))
 
 returns-2 : tie.Need-returns-2
 returns-2 c =

@@ -19,8 +19,9 @@ use Rattle.lowhigh.specs.Rules.{never}
 use Rattle.windows.specs.Inside.{leastAt}
 use Rattle.windows.specs.declared.Windows.{Windows}
 use Rattle.neighbours.specs.Lists.{entriesOf, firstAt}
-use Rattle.kept.specs.Rooms.{highsAt, doneAt}
-use Rattle.kept_windows.specs.Answers.{openAt, lowAt, shutAt, holderAt, Answered}
+use Rattle.rows.specs.declared.sheet.Row.{Row}
+use Rattle.kept.specs.Rooms.{highsAt, doneAt, holding, untilBy}
+use Rattle.kept_windows.specs.Answers.{openAt, lowAt, shutBy, shutAt, holderAt, Answered}
 
 -- ---- the open points and the Lows
 
@@ -99,7 +100,16 @@ sofar-end rows out kept points watched opens holders lows p high e s h =
       high = h;
     }
 
--- ---- one point's record
+-- ---- one point
+
+-- it is open by the tests that the code has
+pub open-by : (kept : List ℕ) (points watched p : ℕ) (does watches : Bool) → does ≡ member (getD kept doneAt 0) p → watches ≡ member watched p
+    → ((ltb p points && (not watches && not does)) && eqb (getD kept p 0) 0) ≡ openAt kept points watched p
+open-by kept points watched p does watches e f = λ i. (ltb p points && (not (f i) && not (e i))) && eqb (getD kept p 0) 0
+
+-- a row that still holds
+pub shut-by : (x : Row) (done p : ℕ) (holds does : Bool) → holds ≡ holding x → p ≡ untilBy x → does ≡ member done p → (holds && not does) ≡ shutBy x done
+shut-by x done p holds does e f g = rw (g, f, e)
 
 pub not-held : (rows out kept : List ℕ) (q : ℕ) → getD kept q 0 ≡ 0 → 0 ≡ holderAt rows out kept q
 not-held rows out kept q e = rw e

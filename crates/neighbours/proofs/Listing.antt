@@ -25,8 +25,8 @@ key-small least kind point = go (ltb kind least)
     go true = omega arith
     go false = omega arith
 
-pub listed : (least kind point k : ℕ) → k ≡ keyOf least kind point → (k ≡ keyOf least kind point) × (k < buckets)
-listed least kind point k e = (e, omega (arith, e, key-small least kind point))
+pub listed : (least kind point i k : ℕ) → i ≡ point % buckets → k ≡ (if ltb kind least then mostPoints else i) → (k ≡ keyOf least kind point) × (k < buckets)
+listed least kind point i k e f = let g : k ≡ keyOf least kind point = rw e at f in (g, omega (arith, g, key-small least kind point))
 
 -- the n records from i on are in their lists
 pub record Built (key : ℕ → ℕ) (count i n : ℕ) (list : List ℕ) : Type 0 where

@@ -29,6 +29,10 @@ unfolding chain
 chain-end zero list i h = refl
 chain-end (suc f) list i h = rw (le-ltb i mostRecords h)
 
+-- where it goes on
+pub goes-on : (list : List ℕ) (i left n r : ℕ) → n ≡ getD list (buckets + i) 0 → r ≡ (if ltb 0 left then n else mostRecords) → r ≡ onwardOf list i left
+goes-on list i left n r e f = rw e at f
+
 -- one step of a walk: from i with `left` to i′ with one less
 pub record Step (list : List ℕ) (i left i′ left′ : ℕ) : Type 0 where
   pub more : i′ < mostRecords → 0 < left′

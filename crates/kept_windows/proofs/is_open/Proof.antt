@@ -1,6 +1,7 @@
 -- `kept_windows::is_open` meets its contract. Assumes nothing.
 use native.Mathlib.Omega.{arith}
 use borrow.Author.Needs.{needs}
+use Rattle.kept_windows.proofs.Opening.{open-by}
 use Rattle.kept_windows.proofs.is_open.Statement.{statement}
 use Rattle.kept_windows.proofs.is_open.Tie as tie
 
@@ -20,7 +21,7 @@ has-requires-2 : tie.Need-has-requires-2
 has-requires-2 c κs = search needs
 
 returns : tie.Need-returns
-returns c = rw (c .has2 .ensures, c .before .has .ensures)
+returns c = let a = c .before .before .before .before .args in open-by (a .kept .now) (a .points) (a .watched) (a .p) _ _ (c .before .has .ensures) (c .has2 .ensures)
 
 pub is-open-spec : {M : Type 1} → statement M
 is-open-spec =

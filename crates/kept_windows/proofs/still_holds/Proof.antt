@@ -1,6 +1,7 @@
 -- `kept_windows::still_holds` meets its contract. Assumes nothing.
 use native.Mathlib.Omega.{arith}
 use borrow.Author.Needs.{needs}
+use Rattle.kept_windows.proofs.Opening.{shut-by}
 use Rattle.kept_windows.proofs.still_holds.Statement.{statement}
 use Rattle.kept_windows.proofs.still_holds.Tie as tie
 
@@ -14,7 +15,7 @@ has-requires : tie.Need-has-requires
 has-requires c κs = search needs
 
 returns : tie.Need-returns
-returns c = rw (c .has .ensures, c .before .place .ensures, c .before .before .is-holding .ensures)
+returns c = let a = c .before .before .before .args in shut-by (a .row) (a .done) _ _ _ (c .before .before .is-holding .ensures) (c .before .place .ensures) (c .has .ensures)
 
 pub still-holds-spec : {M : Type 1} → statement M
 still-holds-spec = tie.close (tie.spec is-holding-requires place-requires has-requires returns)

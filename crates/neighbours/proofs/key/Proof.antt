@@ -12,9 +12,7 @@ pick-requires : tie.Need-pick-requires
 pick-requires c κs = search needs
 
 returns : tie.Need-returns
-returns c =
-    let a = c .before .before .args in
-    listed (a .least) (a .kind) (a .point) (c .pick .result) (rw (c .pick .ensures, c .before .index .ensures))
+returns c = let a = c .before .before .args in listed (a .least) (a .kind) (a .point) _ _ (c .before .index .ensures) (c .pick .ensures)
 
 pub key-spec : {M : Type 1} → statement M
 key-spec = tie.close (tie.spec index-requires pick-requires returns)

@@ -1,6 +1,7 @@
 -- `neighbours::onward` meets its contract. Assumes nothing.
 use native.Mathlib.Omega.{arith}
 use borrow.Author.Needs.{needs}
+use Rattle.neighbours.proofs.Walking.{goes-on}
 use Rattle.neighbours.proofs.onward.Statement.{statement}
 use Rattle.neighbours.proofs.onward.Tie as tie
 
@@ -20,7 +21,7 @@ pick-requires : tie.Need-pick-requires
 pick-requires c κs = search needs
 
 returns : tie.Need-returns
-returns c = rw (c .pick .ensures, c .before .wide .ensures)
+returns c = let a = c .before .before .before .args in goes-on (a .list .now) (a .i) (a .left) _ _ (c .before .wide .ensures) (c .pick .ensures)
 
 pub onward-spec : {M : Type 1} → statement M
 onward-spec =

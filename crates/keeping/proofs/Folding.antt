@@ -15,11 +15,11 @@ use Rattle.plan.specs.Limits.{mostPoints, mostRecords}
 use Rattle.plan.specs.APlan.{one, howMany, blank}
 use Rattle.records.specs.declared.Record.{Record}
 use Rattle.history.proofs.Tests.{clash}
-use Rattle.lowhigh.specs.Rules.{greatest, least, never}
+use Rattle.plan.specs.declared.Found.the-variants.{At, Nothing}
+use Rattle.lowhigh.specs.Rules.{greatest, least, never, placeFrom, numberAt}
 use Rattle.rows.specs.Sheet.{rowAt}
 use Rattle.neighbours.specs.Lists.{placesOf, over, topAt, firstAt}
 use Rattle.kept.specs.Rooms.{lowsAt, runsAt, highsAt, minutesAt, keptRoom, holding, heldBy, overBy, lowBy, runBy, highBy, freedAt, boundedAt}
-use Rattle.keeping.specs.Counts.{numberFrom}
 use Rattle.keeping.proofs.Changes.{least-never}
 
 -- ---- what a row says, by its number
@@ -260,8 +260,8 @@ module _ (key val : ℕ → ℕ) (z : ℕ) where
   -- the first entry that is so is the first record that is
   pub first-places : (at : ℕ → Bool) (so : Record → Bool) (i : ℕ) (rs : List Record)
       → ((k : ℕ) → k < length rs → (eqb (key (i + k)) z && at (i + k)) ≡ so (getD rs k blank))
-      → firstAt at (placesOf key z i (length rs)) ≡ numberFrom i so rs
-  unfolding firstAt placesOf numberFrom
+      → firstAt at (placesOf key z i (length rs)) ≡ numberAt (placeFrom i so rs)
+  unfolding firstAt placesOf placeFrom
   first-places at so i [] e = refl
   first-places at so i (r ∷ rs) e = go (eqb (key i) z) (at i) (so r) here (first-places at so (suc i) rs later) refl refl
     where
@@ -271,8 +271,8 @@ module _ (key val : ℕ → ℕ) (z : ℕ) where
       here : (eqb (key i) z && at i) ≡ so r
       here = let d : i + 0 ≡ i = omega arith in rw d at (e 0 (omega arith))
 
-      go : (b a s : Bool) → (b && a) ≡ s → firstAt at (placesOf key z (suc i) (length rs)) ≡ numberFrom (suc i) so rs
-          → eqb (key i) z ≡ b → at i ≡ a → firstAt at (if b then i ∷ placesOf key z (suc i) (length rs) else placesOf key z (suc i) (length rs)) ≡ (if s then i else numberFrom (suc i) so rs)
+      go : (b a s : Bool) → (b && a) ≡ s → firstAt at (placesOf key z (suc i) (length rs)) ≡ numberAt (placeFrom (suc i) so rs)
+          → eqb (key i) z ≡ b → at i ≡ a → firstAt at (if b then i ∷ placesOf key z (suc i) (length rs) else placesOf key z (suc i) (length rs)) ≡ numberAt (if s then At i else placeFrom (suc i) so rs)
       go true true true h it p u = rw u
       go true true false h it p u = clash h
       go true false true h it p u = clash (sym h)

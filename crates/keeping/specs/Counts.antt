@@ -1,8 +1,8 @@
 -- Document 02, §5: what is kept for a point q, each as a count, largest or least over the whole plan, on plain values: rs are the plan's
 -- records, then the set of done points and the minute of each. Assumes nothing.
 use mathlib.Core.Bool.{Bool, _&&_, _||_}
-use mathlib.Core.List.{List, [], _∷_}
-use Prim.Native.Nat.{ℕ, suc, _+_, _-_}
+use mathlib.Core.List.{List}
+use Prim.Native.Nat.{ℕ, _+_, _-_}
 use lib.Dec.{eqb, ltb}
 use Rattle.points.specs.Sets.{member}
 use Rattle.plan.specs.Choice.{if_then_else_}
@@ -39,15 +39,6 @@ waitOf rs done minutes q = greatest (awaits rs done minutes q) rs
 -- High, 100,000 up
 abbrev pub highOf : List Record → ℕ → List ℕ → ℕ → ℕ
 highOf rs done minutes q = least (bound done minutes q) rs
-
--- the number of the first record that is so, 0 where none is; i is the number of the first of all
-unfoldable pub numberFrom : ℕ → (Record → Bool) → List Record → ℕ
-numberFrom i so [] = 0
-numberFrom i so (r ∷ rs) = if so r then i else numberFrom (suc i) so rs
-
--- the first record in file order that holds q shut, 0 for none: record 0 is a point's
-abbrev pub holderOf : List Record → ℕ → ℕ → ℕ
-holderOf rs done q = numberFrom 0 (shuts rs done q) rs
 
 -- ---- what one more done point z changes
 

@@ -1,3 +1,4 @@
 -- The proofs of what is kept that belong to no one function.
 mod Beginning
 mod Sets
+mod Steps

@@ -18,36 +18,43 @@ use Rattle.plan.specs.Limits.{mostPoints}
 use Rattle.lowhigh.specs.Rules.{never}
 use Rattle.windows.specs.Inside.{leastAt}
 use Rattle.windows.specs.declared.Windows.{Windows}
-use Rattle.kept.specs.Rooms.{highsAt}
-use Rattle.kept_windows.specs.Answers.{openAt, lowAt, Answered}
+use Rattle.neighbours.specs.Lists.{entriesOf, firstAt}
+use Rattle.kept.specs.Rooms.{highsAt, doneAt}
+use Rattle.kept_windows.specs.Answers.{openAt, lowAt, shutAt, holderAt, Answered}
 
 -- ---- the open points and the Lows
 
-pub record Sofar (kept : List ℕ) (points watched : ℕ) (opens : ℕ) (lows : List ℕ) (p : ℕ) : Type 0 where
+pub record Sofar (rows out kept : List ℕ) (points watched : ℕ) (opens : ℕ) (holders lows : List ℕ) (p : ℕ) : Type 0 where
   pub near : p ≤ mostPoints
   pub fits : opens < 2 ^ 32
   pub long : length lows ≡ mostPoints
+  pub long-holders : length holders ≡ mostPoints
   pub members : (q : ℕ) → q < mostPoints → member opens q ≡ (not (ltb q p) && openAt kept points watched q)
+  pub held : (q : ℕ) → p ≤ q → q < mostPoints → getD holders q 0 ≡ holderAt rows out kept q
   pub earliest : (q : ℕ) → p ≤ q → q < mostPoints → getD lows q 0 ≡ lowAt kept q
 
-pub sofar-start : (kept : List ℕ) (points watched : ℕ) → Sofar kept points watched 0 (replicate mostPoints 0) mostPoints
-sofar-start kept points watched =
+pub sofar-start : (rows out kept : List ℕ) (points watched : ℕ) → Sofar rows out kept points watched 0 (replicate mostPoints 0) (replicate mostPoints 0) mostPoints
+sofar-start rows out kept points watched =
     record {
       near = omega arith;
       fits = omega arith;
       long = length-replicate {A = ℕ} mostPoints 0;
+      long-holders = length-replicate {A = ℕ} mostPoints 0;
+      held = λ q l h. absurd (omega arith);
       members = λ q h. rw (member-empty q, lt-ltb q mostPoints h);
       earliest = λ q l h. absurd (omega arith);
     }
 
-module _ (kept : List ℕ) (points watched opens : ℕ) (lows : List ℕ) (p : ℕ) (s : Sofar kept points watched opens lows p) (j : ℕ) (e : p ≡ suc j) where
-  pub sofar-turn : (so : Bool) (o v : ℕ) → so ≡ openAt kept points watched j → o ≡ (if so then withOf opens j else opens) → v ≡ lowAt kept j
-      → Sofar kept points watched o (set lows j v) j
-  sofar-turn so o v is p1 p2 =
+module _ (rows out kept : List ℕ) (points watched opens : ℕ) (holders lows : List ℕ) (p : ℕ) (s : Sofar rows out kept points watched opens holders lows p) (j : ℕ) (e : p ≡ suc j) where
+  pub sofar-turn : (so : Bool) (o v x : ℕ) → so ≡ openAt kept points watched j → o ≡ (if so then withOf opens j else opens) → x ≡ holderAt rows out kept j → v ≡ lowAt kept j
+      → Sofar rows out kept points watched o (set holders j x) (set lows j v) j
+  sofar-turn so o v x is p1 p3 p2 =
       record {
         near = omega (arith, s .near);
         fits = rw p1 (small so);
         long = simp length-set (s .long);
+        long-holders = simp length-set (s .long-holders);
+        held = λ q l h. held-at q l h (ℕ-discrete q j);
         members = λ q h. rw p1 (one-of q h (ℕ-discrete q j));
         earliest = λ q l h. low-at q l h (ℕ-discrete q j);
       }
@@ -55,6 +62,10 @@ module _ (kept : List ℕ) (points watched opens : ℕ) (lows : List ℕ) (p : �
       small : (so : Bool) → (if so then withOf opens j else opens) < 2 ^ 32
       small true = with-fits opens j (s .fits)
       small false = s .fits
+
+      held-at : (q : ℕ) → j ≤ q → q < mostPoints → Dec (q ≡ j) → getD (set holders j x) q 0 ≡ holderAt rows out kept q
+      held-at q l h (yes u) = rw (u, getD-set-same holders j x 0 (omega (arith, s .long-holders, s .near)), p3)
+      held-at q l h (no n) = getD-set-other holders j q x 0 n ∙ s .held q (omega arith) h
 
       low-at : (q : ℕ) → j ≤ q → q < mostPoints → Dec (q ≡ j) → getD (set lows j v) q 0 ≡ lowAt kept q
       low-at q l h (yes u) = rw (u, getD-set-same lows j v 0 (omega (arith, s .long, s .near)), p2)
@@ -75,16 +86,26 @@ module _ (kept : List ℕ) (points watched opens : ℕ) (lows : List ℕ) (p : �
       one-of q h (yes u) = rw (u, le-ltb j j (omega arith)) (at-j so is ∙ is)
       one-of q h (no n) = other so q h n ∙ (s .members q h ∙ rw (e, past q n))
 
-pub sofar-end : (kept : List ℕ) (points watched opens : ℕ) (lows : List ℕ) (p high : ℕ) → p ≡ 0 → Sofar kept points watched opens lows p
-    → high ≡ leastAt (drop highsAt kept) (membersOf opens) → Answered kept points watched (record { opens = opens; lows = lows; high = high })
-sofar-end kept points watched opens lows p high e s h =
+pub sofar-end : (rows out kept : List ℕ) (points watched opens : ℕ) (holders lows : List ℕ) (p high : ℕ) → p ≡ 0 → Sofar rows out kept points watched opens holders lows p
+    → high ≡ leastAt (drop highsAt kept) (membersOf opens) → Answered rows out kept points watched (record { opens = opens; holders = holders; lows = lows; high = high })
+sofar-end rows out kept points watched opens holders lows p high e s h =
     record {
       fits = s .fits;
       long = s .long;
+      long-holders = s .long-holders;
       opens = λ q l. s .members q l ∙ rw (e, le-ltb q 0 (omega arith));
+      holders = λ q l. s .held q (omega arith) l;
       lows = λ q l. s .earliest q (omega arith) l;
       high = h;
     }
+
+-- ---- one point's record
+
+pub not-held : (rows out kept : List ℕ) (q : ℕ) → getD kept q 0 ≡ 0 → 0 ≡ holderAt rows out kept q
+not-held rows out kept q e = rw e
+
+pub still-held : (rows out kept : List ℕ) (q x : ℕ) → (getD kept q 0 ≡ 0 → ⊥) → x ≡ firstAt (shutAt rows (getD kept doneAt 0)) (entriesOf out q) → x ≡ holderAt rows out kept q
+still-held rows out kept q x n e = rw (ne-eqb (getD kept q 0) 0 n) e
 
 -- ---- the least High
 

@@ -1,5 +1,5 @@
-// The windows from what is kept: which points are open, each one's Low, and H; and the first record that holds a point shut. 32 places,
-// and the records that name a point, whatever the plan. An inner room: it serves `engine`. What the rooms hold may be any numbers;
+// The windows from what is kept: which points are open, each one's Low, and H; and the first record that holds a shut point, found among
+// the records that name that point. An inner room: it serves `engine`. What the rooms hold may be any numbers;
 // proofs/Answering says that of a plan's rooms the answers are the plain engine's.
 ghost use mathlib.Core.Path.{_≡_};
 ghost use Prim.Native.Nat.{_<_};
@@ -9,7 +9,7 @@ ghost use Rattle.plan.specs.Limits.{mostPoints};
 ghost use Rattle.windows.specs.Inside.{leastAt};
 ghost use Rattle.neighbours.specs.Lists.{entriesOf, firstAt};
 ghost use Rattle.kept.specs.Rooms.{highsAt};
-ghost use Rattle.kept_windows.specs.Answers.{openAt, lowAt, Answered, shutBy, shutAt};
+ghost use Rattle.kept_windows.specs.Answers.{openAt, lowAt, shutBy, shutAt, holderAt, Answered};
 use kept::CLOCK;
 use kept::DONE;
 use kept::HIGHS;
@@ -47,7 +47,7 @@ fn is_open(kept: &[u32; KEPT], points: u32, watched: u32, p: u8) -> bool
 }
 
 // The Low of a point.
-fn low_at(kept: &[u32; KEPT], p: u8) -> u32
+pub fn low_at(kept: &[u32; KEPT], p: u8) -> u32
     requires { ⌜ p < mostPoints ⌝ }
     ensures { λ r. ⌜ r ≡ lowAt (now (kept .entry)) p ⌝ }
 {
@@ -69,26 +69,6 @@ fn high_of(kept: &[u32; KEPT], set: u32) -> u32
     least
 }
 
-// The windows of a plan of so many points, some of them watched, from the last point to the first.
-pub fn windows_of(kept: &[u32; KEPT], points: u32, watched: u32) -> Windows
-    ensures { λ w. ⌜ Answered (now (kept .entry)) points watched w ⌝ }
-{
-    let mut opens: u32 = 0;
-    let mut lows: [u32; SIDE] = [0; SIDE];
-    let mut p: u8 = MOST;
-    while 0 < p {
-        p -= 1;
-        let q = p as usize;
-        opens = with_if(is_open(kept, points, watched, p), opens, p);
-        lows[q] = low_at(kept, p);
-    }
-    Windows {
-        opens: opens,
-        lows: lows,
-        high: high_of(kept, opens),
-    }
-}
-
 // A row still holds its first point shut.
 fn still_holds(row: Row, done: u32) -> bool
     ensures { λ r. ⌜ r ≡ shutBy row done ⌝ }
@@ -97,17 +77,57 @@ fn still_holds(row: Row, done: u32) -> bool
 }
 
 // The first record in file order that holds a point shut, 0 for none.
-pub fn first_holder(rows: &[u64; SHEET], out: &[u32; LIST], done: u32, v: u8) -> usize
+fn first_holder(rows: &[u64; SHEET], out: &[u32; LIST], done: u32, v: u8) -> u32
     ensures { λ r. ⌜ r ≡ firstAt (shutAt (now (rows .entry)) done) (entriesOf (now (out .entry)) v) ⌝ }
 {
     let mut i = start(out, v as usize);
     let mut left = MOST_RECORDS;
     while i < MOST_RECORDS {
         if still_holds(row_at(rows, i), done) {
-            return i;
+            return i as u32;
         }
         left -= 1;
         i = onward(out, i, left);
     }
     0
+}
+
+// The same, where nothing is read for a point that nothing holds.
+fn holder_at(rows: &[u64; SHEET], out: &[u32; LIST], kept: &[u32; KEPT], p: u8) -> u32
+    requires { ⌜ p < mostPoints ⌝ }
+    ensures { λ r. ⌜ r ≡ holderAt (now (rows .entry)) (now (out .entry)) (now (kept .entry)) p ⌝ }
+{
+    if kept[p as usize] == 0 {
+        return 0;
+    }
+    first_holder(rows, out, kept[DONE], p)
+}
+
+// The windows of a plan of so many points, some of them watched, from the last point to the first.
+pub fn windows_of(
+    rows: &[u64; SHEET],
+    out: &[u32; LIST],
+    kept: &[u32; KEPT],
+    points: u32,
+    watched: u32,
+) -> Windows
+    ensures { λ w. ⌜ Answered (now (rows .entry)) (now (out .entry)) (now (kept .entry)) points watched w ⌝ }
+{
+    let mut opens: u32 = 0;
+    let mut holders: [u32; SIDE] = [0; SIDE];
+    let mut lows: [u32; SIDE] = [0; SIDE];
+    let mut p: u8 = MOST;
+    while 0 < p {
+        p -= 1;
+        let q = p as usize;
+        opens = with_if(is_open(kept, points, watched, p), opens, p);
+        holders[q] = holder_at(rows, out, kept, p);
+        lows[q] = low_at(kept, p);
+    }
+    Windows {
+        opens: opens,
+        holders: holders,
+        lows: lows,
+        high: high_of(kept, opens),
+    }
 }

@@ -1,18 +1,18 @@
 -- The event that the kept numbers give is the one of the rules. Assumes that the plan is accepted, the board sound for it, and the
 -- rooms that plan's.
 use mathlib.Core.Path.{_≡_, refl, sym, ap, _∙_}
-use mathlib.Core.Bool.{Bool, true, false, not, _&&_, _||_}
-use mathlib.Core.List.{List, [], _∷_}
+use mathlib.Core.Bool.{Bool, true, false, not, _&&_}
+use mathlib.Core.List.{List}
 use Prim.Native.Nat.{ℕ, _+_, _*_, _%_, _^_, _≤_, _<_, min, max}
 use native.Mathlib.Omega.{arith}
-use borrow.Author.Tests.{eqb-true, ne-eqb, lt-ltb, le-ltb, le-leb, lt-leb}
+use borrow.Author.Tests.{eqb-true, lt-ltb, le-ltb, le-leb, lt-leb}
 use lib.Dec.{eqb, ltb, leb}
 use lib.ListN.{length, getD}
 use Rattle.points.specs.Sets.{member, from}
 use Rattle.points.proofs.Laws.{count-le, member-past}
 use Rattle.plan.specs.Choice.{if_then_else_}
 use Rattle.plan.specs.Limits.{mostPoints, farthest}
-use Rattle.plan.specs.APlan.{one, howMany, some, points, watched, linkTo}
+use Rattle.plan.specs.APlan.{points, watched, linkTo}
 use Rattle.plan.proofs.Accepted.{Accepted}
 use Rattle.records.specs.declared.Record.{Record}
 use Rattle.history.specs.History.{runs}
@@ -33,22 +33,13 @@ use Rattle.rows.specs.Layout.{LaidOut}
 use Rattle.kept.specs.Rooms.{minutesAt, doneAt}
 use Rattle.keeping.specs.Keeps.{KeptOf}
 use Rattle.keeping.proofs.Changes.{low-is}
+use Rattle.kept_windows.proofs.Answering.{none-is}
 use Rattle.promise.specs.Plays.{setOf, firstEnd, endingAt, comesFirst}
 use Rattle.steps.specs.Found.{StartsIn, lowBy, runsBy, endBy, endsThen, nearest, earlier, firstBy, eventAt, eventBy}
 use Rattle.steps.specs.Events.{leastOpen, firstOpen, endAt, made, eventOf}
 use Rattle.steps.specs.declared.Least.{Least}
 use Rattle.steps.proofs.Nearest.{nearest-is, set-below}
 use Rattle.steps.proofs.Starting.{starts-are}
-
--- none is so exactly where the count is 0
-none-is : (so : Record → Bool) (rs : List Record) → eqb (howMany so rs) 0 ≡ not (some so rs)
-unfolding howMany some
-none-is so [] = refl
-none-is so (r ∷ rs) = go (so r) (none-is so rs)
-  where
-    go : (b : Bool) → eqb (howMany so rs) 0 ≡ not (some so rs) → eqb (one b + howMany so rs) 0 ≡ not (b || some so rs)
-    go true h = ne-eqb (1 + howMany so rs) 0 (λ e. omega arith)
-    go false h = let e : 0 + howMany so rs ≡ howMany so rs = omega arith in rw e h
 
 module _ (rs : List Record) (ok : Accepted rs) (b : Board) (g : Sound rs b) (fits : b .done < 2 ^ 32) (w : List ℕ) (lasts : (C : ℕ) → by w C ≤ farthest)
     (kept : List ℕ) (k : KeptOf rs b kept) (s : List ℕ) (laid : LaidOut rs s) (starts : List ℕ) (in-sheet : StartsIn s (length rs) starts) where

@@ -3,7 +3,7 @@
 use mathlib.Core.Path.{_≡_}
 use mathlib.Core.Bool.{Bool, not, _&&_}
 use mathlib.Core.List.{List, [], _∷_}
-use Prim.Native.Nat.{ℕ, zero, suc, _+_, _%_, _^_, _<_, min, max}
+use Prim.Native.Nat.{ℕ, zero, suc, _+_, _%_, _^_, _<_, min}
 use lib.Dec.{eqb, ltb, leb}
 use lib.ListN.{length, getD}
 use Rattle.points.specs.Sets.{member, from}
@@ -15,7 +15,8 @@ use Rattle.events.specs.declared.Event.{Event}
 use Rattle.rows.specs.Sheet.{by, kindAt, fromAt, overAt}
 use Rattle.neighbours.specs.Lists.{keyAt, Indexed}
 use Rattle.kept.specs.Begins.{Begun}
-use Rattle.kept.specs.Rooms.{lowsAt, runsAt, minutesAt, clockAt, doneAt}
+use Rattle.kept.specs.Rooms.{minutesAt, doneAt}
+use Rattle.kept_windows.specs.Answers.{lowAt}
 use Rattle.promise.specs.Plays.{setOf}
 use Rattle.steps.specs.declared.Least.{Least}
 
@@ -51,8 +52,7 @@ openBy kept starts n q =
 -- the Low of an open point, past every minute where q is not open
 abbrev pub lowBy : List ℕ → List ℕ → ℕ → ℕ → ℕ
 lowBy kept starts n q =
-    if openBy kept starts n q then max (getD kept clockAt 0) (max (getD kept (lowsAt + q) 0) (getD kept (runsAt + q) 0))
-    else never
+    if openBy kept starts n q then lowAt kept q else never
 
 -- the link that ends at C is running: A done, C not
 abbrev pub runsBy : List ℕ → List ℕ → ℕ → Bool

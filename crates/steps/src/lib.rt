@@ -10,36 +10,26 @@ ghost use Rattle.promise.specs.Plays.{setOf};
 ghost use Rattle.steps.specs.Found.{StartsIn, RoomsOf, openBy, lowBy, endBy, endsThen, nearer, nearest, earlier, eventBy};
 use events::Event;
 use events::NO_POINT;
-use kept::CLOCK;
 use kept::DONE;
 use kept::KEPT;
-use kept::LOWS;
 use kept::MINUTES;
-use kept::RUNS;
-use kept::begin_kept;
 use kept::place;
 use kept::sum;
+use kept_windows::low_at;
 use lowhigh::NEVER;
 use lowhigh::either;
-use lowhigh::larger;
 use lowhigh::with_if;
 use neighbours::LIST;
-use neighbours::build;
 use plan::LINK;
-use plan::ORDINARY;
-use plan::WAIT;
 use points::MOST;
 use points::has;
+use rooms::list;
 use rows::SHEET;
 use rows::row_at;
 use tables::SIDE;
 
-// The kinds of record, as a row has them.
+// The kind of a link, as a row has it.
 const LINK_ROW: u64 = LINK as u64;
-
-const ORDINARY_ROW: u64 = ORDINARY as u64;
-
-const WAIT_ROW: u64 = WAIT as u64;
 
 // A minute, and the first point that has it.
 pub struct Least {
@@ -84,10 +74,7 @@ pub fn begin_rooms(
     requires { ⌜ m ≤ mostRecords ⌝ }
     ensures { λ t. ⌜ RoomsOf (now (sheet .entry)) m (now (into .exit)) (now (out .exit)) (now (ends .exit)) (now (begun .exit)) t ⌝ }
 {
-    build(sheet, ORDINARY_ROW, 2, m, into);
-    build(sheet, ORDINARY_ROW, 1, m, out);
-    build(sheet, WAIT_ROW, 5, m, ends);
-    begin_kept(sheet, m, begun);
+    list(sheet, m, into, out, ends, begun);
     starts_of(sheet, m)
 }
 
@@ -123,10 +110,7 @@ fn low_by(kept: &[u32; KEPT], starts: &[u8; SIDE], n: u32, q: u8) -> u32
     requires { ⌜ q < mostPoints ⌝ }
     ensures { λ r. ⌜ r ≡ lowBy (now (kept .entry)) (now (starts .entry)) n q ⌝ }
 {
-    let open = is_open(kept, starts, n, q);
-    let at = q as usize;
-    let low = larger(kept[CLOCK], larger(kept[LOWS + at], kept[RUNS + at]));
-    either(open, low, NEVER)
+    either(is_open(kept, starts, n, q), low_at(kept, q), NEVER)
 }
 
 // When the link that ends at a point ends, past every minute where none is running.

@@ -1,7 +1,7 @@
 -- `kept_windows::first_holder` meets its contract. Assumes nothing.
 use native.Mathlib.Omega.{arith}
 use borrow.Author.Needs.{needs}
-use mathlib.Core.Path.{_≡_, refl, _∙_, sym}
+use mathlib.Core.Path.{refl}
 use Rattle.neighbours.proofs.Walking.{Seeking, seek-start, seek-turn, seek-found, seek-end, step}
 use Rattle.kept_windows.specs.Answers.{shutAt}
 use Rattle.kept_windows.proofs.first_holder.Statement.{statement}
@@ -24,6 +24,9 @@ row-at-requires c κs = search needs
 
 still-holds-requires : tie.Need-still-holds-requires Inv-loop μ-loop
 still-holds-requires c κs = search needs
+
+cast-result : tie.Need-cast-result Inv-loop μ-loop
+cast-result c = search needs
 
 returns : tie.Need-returns Inv-loop μ-loop
 returns c =
@@ -59,6 +62,7 @@ first-holder-spec =
     loop-holds
     row-at-requires
     still-holds-requires
+    cast-result
     returns
     sub-left
     onward-requires

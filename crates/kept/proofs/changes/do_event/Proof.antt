@@ -1,6 +1,7 @@
 -- `kept::changes::do_event` meets its contract. Assumes nothing.
 use native.Mathlib.Omega.{arith}
 use borrow.Author.Needs.{needs}
+use Rattle.kept.proofs.Steps.{event-by}
 use Rattle.kept.proofs.changes.do_event.Statement.{statement}
 use Rattle.kept.proofs.changes.do_event.Tie as tie
 
@@ -23,7 +24,7 @@ do-one-requires : tie.Need-do-one-requires
 do-one-requires c κs = search needs
 
 returns : tie.Need-returns
-returns c = rw (c .do-one .ensures, c .before .before .do-set .ensures, c .before .before .before .before .sum .ensures)
+returns c = let a = c .before .before .before .before .before .before .args in event-by (a .rows .now) (a .into .now) (a .out .now) (a .ends .now) (a .e) _ (a .kept .now) _ _ (c .before .before .before .before .sum .ensures) (c .before .before .do-set .ensures) (c .do-one .ensures)
 
 pub do-event-spec : {M : Type 1} → statement M
 do-event-spec =

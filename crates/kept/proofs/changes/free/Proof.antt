@@ -1,6 +1,7 @@
 -- `kept::changes::free` meets its contract. Assumes nothing.
 use native.Mathlib.Omega.{arith}
 use borrow.Author.Needs.{needs}
+use Rattle.kept.proofs.Steps.{freed-by}
 use Rattle.kept.proofs.changes.free.Statement.{statement}
 use Rattle.kept.proofs.changes.free.Tie as tie
 
@@ -77,7 +78,7 @@ element-write-kept-3 : tie.Need-element-write-kept-3
 element-write-kept-3 c = search needs
 
 returns : tie.Need-returns
-returns c = rw (c .larger2 .ensures, c .before .run-by .ensures, c .before .before .before .larger .ensures, c .before .before .before .before .low-by .ensures, c .before .before .before .before .before .before .past .ensures, c .before .before .before .before .before .before .before .hold .ensures, c .before .before .before .before .before .before .before .before .before .place .ensures)
+returns c = let a = c .before .before .before .before .before .before .before .before .before .before .args in freed-by (a .row) (a .t) (a .kept .now) _ _ _ _ _ _ _ (c .before .before .before .before .before .before .before .before .before .place .ensures) (c .before .before .before .before .before .before .before .hold .ensures) (c .before .before .before .before .before .before .past .ensures) (c .before .before .before .before .low-by .ensures) (c .before .before .before .larger .ensures) (c .before .run-by .ensures) (c .larger2 .ensures)
 
 pub free-spec : {M : Type 1} → statement M
 free-spec =

@@ -1,6 +1,7 @@
 -- `kept::changes::mark` meets its contract. Assumes nothing.
 use native.Mathlib.Omega.{arith}
 use borrow.Author.Needs.{needs}
+use Rattle.kept.proofs.Steps.{marked-by}
 use Rattle.kept.proofs.changes.mark.Statement.{statement}
 use Rattle.kept.proofs.changes.mark.Tie as tie
 
@@ -38,7 +39,7 @@ element-write-kept-3 : tie.Need-element-write-kept-3
 element-write-kept-3 c = search needs
 
 returns : tie.Need-returns
-returns c = rw (c .bound-all .ensures, c .before .before .free-all .ensures, c .before .before .before .before .with .ensures)
+returns c = let a = c .before .before .before .before .before .before .args in marked-by (a .rows .now) (a .into .now) (a .out .now) (a .t) (a .n) (a .z) _ (a .kept .now) _ _ (c .before .before .before .before .with .ensures) (c .before .before .free-all .ensures) (c .bound-all .ensures)
 
 pub mark-spec : {M : Type 1} → statement M
 mark-spec =

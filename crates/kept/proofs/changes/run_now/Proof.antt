@@ -1,6 +1,7 @@
 -- `kept::changes::run_now` meets its contract. Assumes nothing.
 use native.Mathlib.Omega.{arith}
 use borrow.Author.Needs.{needs}
+use Rattle.kept.proofs.Steps.{running-by}
 use Rattle.kept.proofs.changes.run_now.Statement.{statement}
 use Rattle.kept.proofs.changes.run_now.Tie as tie
 
@@ -38,7 +39,7 @@ either-requires : tie.Need-either-requires
 either-requires c κs = search needs
 
 returns : tie.Need-returns
-returns c = rw (c .either .ensures, c .before .before .reach .ensures, c .before .before .before .before .has2 .ensures, c .before .before .before .before .before .place2 .ensures, c .before .before .before .before .before .before .has .ensures, c .before .before .before .before .before .before .before .before .place .ensures)
+returns c = let a = c .before .before .before .before .before .before .before .before .before .args in running-by (a .row) (a .kept .now) _ _ _ _ _ _ (c .before .before .before .before .before .before .before .before .place .ensures) (c .before .before .before .before .before .before .has .ensures) (c .before .before .before .before .before .place2 .ensures) (c .before .before .before .before .has2 .ensures) (c .before .before .reach .ensures) (c .either .ensures)
 
 pub run-now-spec : {M : Type 1} → statement M
 run-now-spec =

@@ -421,11 +421,12 @@ fn unfinished(draw: &mut Draw) -> Vec<Ask> {
                     break ("a stuck board", joined(&plan, &events));
                 }
             },
-            3 => {
-                // Cut in its last event.
+            3 | 4 => {
+                // Cut in its last event: anywhere, and in its last four bytes, which are 0.
                 let (plan, events) = finished(draw);
                 let mut input = joined(&plan, &events);
-                input.truncate(input.len() - 1 - draw.below(RECORD - 1));
+                let most = if k == 3 { RECORD - 1 } else { 4 };
+                input.truncate(input.len() - 1 - draw.below(most));
                 ("the last event is cut", input)
             }
             _ => {

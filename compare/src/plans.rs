@@ -831,6 +831,7 @@ mod tests {
                 any(draw, sizes, scale, false),
                 any_trucks(draw),
                 any_ringed(draw),
+                barred(draw),
             ];
             for plan in all {
                 assert_eq!(oracle::plan::read(&plan.to_bytes()), Ok(plan));

@@ -61,8 +61,12 @@ fn found(what: &str, tells: &dyn Fn(&Plan, &Board, Reply) -> Reply, refuses: Ref
     panic!("not found: {what}");
 }
 
-/// The ordinary records from a point, with their numbers, and the waits on it with theirs and the A.
-fn of_point(plan: &Plan, v: usize) -> (Vec<(u32, i64, usize)>, Vec<(u32, usize, usize)>) {
+/// An ordinary record from a point: its number, its d and its Y; a wait on it: its number, the A and the C.
+type From = (u32, i64, usize);
+type On = (u32, usize, usize);
+
+/// The ordinary records from a point, and the waits on it.
+fn of_point(plan: &Plan, v: usize) -> (Vec<From>, Vec<On>) {
     let first = (plan.points() + plan.links.len()) as u32;
     let ordinary = (first..).zip(&plan.ordinary);
     let ordinary = ordinary.filter(|(_, record)| record.x == v);
@@ -93,7 +97,7 @@ const HOLDERS: [(&str, Holds); 9] = [
     }),
     ("d = 0 holds", |plan, at, v| {
         let (ordinary, _) = of_point(plan, v);
-        let none = |&(_, d, y): &(u32, i64, usize)| d == 0 && !at.is_done(y);
+        let none = |&(_, d, y): &From| d == 0 && !at.is_done(y);
         let none = ordinary.into_iter().find(none).map(|(n, ..)| n);
         none.into_iter().chain(right(plan, at, v)).min()
     }),
@@ -214,7 +218,7 @@ fn wrong_lists_are_found() {
 /// The record that would hold the event's point, were it the foreman's and not done.
 fn would_hold(plan: &Plan, at: &Board, event: &[u8]) -> u32 {
     let (ordinary, _) = of_point(plan, usize::from(event[4]));
-    let holding = |&(_, d, y): &(u32, i64, usize)| d < 0 && !at.is_done(y);
+    let holding = |&(_, d, y): &From| d < 0 && !at.is_done(y);
     ordinary.into_iter().find(holding).map_or(0, |(n, ..)| n)
 }
 

@@ -147,13 +147,6 @@ const ALL: &[Wrong] = &[
     ),
     wrong(
         "sheet",
-        "15 comes before 6",
-        "if (s->counts[r->kind] == most[r->kind]) return 6;",
-        "if (r->kind == ORDINARY && reserved == 0 && r->a < POINTS && has(s->joined[r->a], r->b) && r->second == 0 && r->code == 0) return 15;
-    if (s->counts[r->kind] == most[r->kind]) return 6;",
-    ),
-    wrong(
-        "sheet",
         "the pair the other way round is a twin",
         "s->joined[r->a] |= 1u << r->b;",
         "s->joined[r->a] |= 1u << r->b, s->joined[r->b] |= 1u << r->a;",

@@ -2,8 +2,12 @@
 use crate::out::Out;
 use crate::out::put;
 use board::Board;
+use places::has_list;
+use places::line_at;
+use places::listed;
+use places::ponds_of;
+use places::reasons_of;
 use plan::Plan;
-use replies::Outcome;
 use replies::Reply;
 use stream::BEGUN;
 use stream::EVENT;
@@ -11,40 +15,39 @@ use stream::PLAYING;
 use stream::REFUSED;
 use stream::Sheet;
 use stream::TAIL;
-use stream::line_at;
-use stream::listed;
-use stream::ponds_of;
 
-// The list of an offer: a line for each point of the plan.
+// The list of a reply: a line for each point of the plan.
 fn list(plan: Plan, reply: Reply, lines: &mut [u8], out: Out) -> Out {
     let count = listed(plan);
     let ponds = ponds_of(plan);
+    let reasons = reasons_of(plan, reply);
     let mut now = out;
     let mut i: u32 = 0;
     while i < count {
-        let line = line_at(ponds, reply, i);
+        let line = line_at(ponds, reasons, reply, i);
         now = put(lines, now, line);
         i += 1;
     }
     now
 }
 
-// What a board is, and where it offers, the list.
+// What a board is, and its list, if it has one.
 fn replied(plan: Plan, board: Board, lines: &mut [u8], out: Out) -> Out {
     let reply = replies::reply_of(plan, board);
     let now = put(lines, out, text::board_line(board, reply));
     let outcome = reply.outcome;
-    let Outcome::Offers = outcome else {
+    if !has_list(outcome) {
         return now;
-    };
+    }
     list(plan, reply, lines, now)
 }
 
-// An event: one line, or, in full, its reply number.
+// An event: one line, or, in full, its reply number and the record beside it.
 fn event(full: bool, sheet: Sheet, lines: &mut [u8], out: Out) -> Out {
     let taken = sheet.taken;
     if full {
-        return put(lines, out, text::reply_line(sheet.last, taken.number));
+        let line = text::reply_line(sheet.last, taken.number, taken.place);
+        return put(lines, out, line);
     }
     put(lines, out, text::event_line(sheet.last, taken))
 }

@@ -19,7 +19,7 @@ const STREAM: u32 = 24;
 // A bound's bytes: two points, two bytes that count for nothing, and a signed number.
 const BOUND_BYTES: usize = 8;
 
-// Three numbers for each event that the buffer can hold.
+// The numbers for 3,072 events.
 const STREAM_ROOM: usize = 12288;
 
 fn byte_at(bytes: &[u8], at: usize) -> u8 {

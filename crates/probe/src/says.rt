@@ -66,7 +66,7 @@ fn say_place(p: u32, state: State) {
     match state {
         State::Done(minute) => say(p, 1, minute, 0),
         State::Watched => say(p, 2, 0, 0),
-        State::Shut => say(p, 3, 0, 0),
+        State::Shut(n) => say(p, 3, n, 0),
         State::Held => say(p, 4, 0, 0),
         State::Offered(low) => say(p, 5, low, 0),
     }

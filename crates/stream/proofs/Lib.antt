@@ -2,5 +2,4 @@
 mod Fronts
 mod Marks
 mod Stages
-mod Ponds
 pub mod AtOnce

@@ -2,4 +2,3 @@
 pub mod Buffers
 pub mod Sheets
 pub mod Many
-pub mod Points

@@ -18,9 +18,9 @@ abbrev pub allPlayedOf : Sheet → List ℕ → List ℕ → Sheet
 allPlayedOf s bytes room =
     record { stage = s .stage; news = nothing; length = s .length; events = (s .events + manyIn bytes room) % 2 ^ 64; last = s .last; plan = s .plan; taken = takeAllOf (s .plan) (s .taken .board) bytes room }
 
--- the line of event k, of which the room says its number, the clock and the done set from `at` on
+-- the line of event k, of which the room says from `at` on its number, a record, the clock and the done set
 abbrev pub saidLine : ℕ → List ℕ → ℕ → Line
-saidLine k room at = numbersLine k (getD room at 0) (getD room (at + 1) 0) (countOf (getD room (at + 2) 0))
+saidLine k room at = numbersLine k (getD room at 0) (getD room (at + 2) 0) (countOf (getD room (at + 3) 0))
 
 -- the sheet after some events, one record more at a time; of the front of the input nothing counts by then
 unfoldable pub oneByOne : Sheet → List ℕ → List (List ℕ) → Sheet

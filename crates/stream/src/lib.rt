@@ -3,7 +3,6 @@
 // programs: some functions have a `requires`, which every caller is proved to meet.
 mod bytes;
 mod front;
-mod list;
 mod many;
 mod sheet;
 
@@ -11,10 +10,6 @@ pub use bytes::behind;
 pub use bytes::fits;
 pub use bytes::within;
 pub use front::read_front;
-pub use list::ROOM;
-pub use list::line_at;
-pub use list::listed;
-pub use list::ponds_of;
 pub use many::said_line;
 pub use sheet::BEGUN;
 pub use sheet::EVENT;

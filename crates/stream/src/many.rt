@@ -41,6 +41,6 @@ pub fn said_line(room: &[u32], at: usize, event: u64) -> Line
     requires { ⌜ at + saidNumbers ≤ length (now room) ⌝ }
     ensures { λ l. ⌜ l ≡ saidLine event (now (room .entry)) at ⌝ }
 {
-    let count = points::count(room[at + 2]);
-    text::numbers_line(event, room[at], room[at + 1], count)
+    let count = points::count(room[at + 3]);
+    text::numbers_line(event, room[at], room[at + 2], count)
 }

@@ -1,22 +1,23 @@
--- `stream::ponds_of` meets its contract. Assumes nothing.
+-- `places::ponds_of` meets its contract. Assumes nothing.
 use mathlib.Core.Path.{_≡_, refl}
 use Prim.Native.Nat.{_≤_, _-_}
 use native.Mathlib.Omega.{arith}
 use lib.ListN.{length, length-map}
 use borrow.Author.Needs.{needs}
 use Rattle.plan.specs.Limits.{mostPoints, mostRecords}
-use Rattle.stream.proofs.Ponds.{Filled, filled-none, filled-more, filled-all}
-use Rattle.stream.proofs.list.ponds_of.Statement.{statement}
-use Rattle.stream.proofs.list.ponds_of.Tie as tie
+use Rattle.places.specs.Places.{ForEach, pondAt}
+use Rattle.places.proofs.Filling.{filled-none, filled-more, filled-all}
+use Rattle.places.proofs.ponds_of.Statement.{statement}
+use Rattle.places.proofs.ponds_of.Tie as tie
 
 abbrev Inv-loop : tie.InvT-loop
-Inv-loop plan ponds₀ i₀ ponds i = (i ≤ mostPoints) × (length (plan .records) ≡ mostRecords) × Filled plan i ponds
+Inv-loop plan ponds₀ i₀ ponds i = (i ≤ mostPoints) × (length (plan .records) ≡ mostRecords) × ForEach (pondAt plan) 0 i ponds
 
 abbrev μ-loop : tie.MeasureT-loop
 μ-loop plan ponds₀ i₀ ponds i = mostPoints - i
 
 loop-holds : tie.Need-loop-holds Inv-loop μ-loop
-loop-holds c = (omega arith, rw length-map at (c .good .0 .1 .1 .1 .0 .1 .0 .1), filled-none _)
+loop-holds c = (omega arith, rw length-map at (c .good .0 .1 .1 .1 .0 .1 .0 .1), filled-none _ _ 0)
 
 mul-r : tie.Need-mul-r Inv-loop μ-loop
 mul-r c = search needs
@@ -39,12 +40,12 @@ loop-less c = search needs
 loop-again : tie.Need-loop-again Inv-loop μ-loop
 loop-again c =
     let i = c .before .before .loop .inv in
-    (omega arith, i .1, filled-more _ _ _ (i .2) (omega arith) _ refl)
+    (omega arith, i .1, filled-more _ _ _ _ (i .2) (omega arith) _ refl)
 
 returns : tie.Need-returns Inv-loop μ-loop
 returns c =
     let i = c .before .loop .inv in
-    filled-all _ _ _ (i .2) (omega (arith, i .0))
+    filled-all _ _ _ _ (i .2) (omega (arith, i .0))
 
 pub ponds-of-spec : {M : Type 1} → statement M
 ponds-of-spec =

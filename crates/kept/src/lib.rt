@@ -79,7 +79,7 @@ fn beyond(x: u64, y: u64) -> u64
 }
 
 // The sum, and the largest number where there is none.
-fn sum(x: u32, y: u32) -> u32
+pub fn sum(x: u32, y: u32) -> u32
     ensures { λ r. ⌜ r ≡ min (x + y) never ⌝ }
 {
     capped(wide(x) + wide(y))

@@ -37,7 +37,7 @@ use Rattle.keeping.proofs.Laying.{Fine, by-kind, all-fine, row-is}
 use Rattle.kept_windows.specs.Answers.{openAt, lowAt, shutBy, shutAt, holderAt, Answered}
 
 -- none is so exactly where the count is 0
-none-is : (so : Record → Bool) (rs : List Record) → eqb (howMany so rs) 0 ≡ not (some so rs)
+pub none-is : (so : Record → Bool) (rs : List Record) → eqb (howMany so rs) 0 ≡ not (some so rs)
 unfolding howMany some
 none-is so [] = refl
 none-is so (r ∷ rs) = go (so r) (none-is so rs)

@@ -47,7 +47,7 @@ fn is_open(kept: &[u32; KEPT], points: u32, watched: u32, p: u8) -> bool
 }
 
 // The Low of a point.
-fn low_at(kept: &[u32; KEPT], p: u8) -> u32
+pub fn low_at(kept: &[u32; KEPT], p: u8) -> u32
     requires { ⌜ p < mostPoints ⌝ }
     ensures { λ r. ⌜ r ≡ lowAt (now (kept .entry)) p ⌝ }
 {

@@ -1,5 +1,6 @@
 // The rooms of an engine that keeps counts, filled from a plan for the fresh board: its records as rows, the three lists of them, and
-// what is kept. Takes any plan, and rooms that hold any numbers. An inner room: it serves `engine`.
+// what is kept. Takes any plan, and rooms that hold any numbers. An inner room: `begin` serves `engine`, `list` also
+// `steps`.
 ghost use mathlib.Core.Path.{_≡_};
 ghost use Prim.Native.Nat.{_≤_};
 ghost use lib.ListN.{length, replicate};
@@ -58,7 +59,7 @@ fn lay(plan: Plan, rows: &mut [u64; SHEET])
 }
 
 // The lists of the rows, and the counts.
-fn list(
+pub fn list(
     rows: &[u64; SHEET],
     count: usize,
     into: &mut [u32; LIST],

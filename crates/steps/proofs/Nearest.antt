@@ -13,7 +13,7 @@ use Rattle.plan.specs.Limits.{mostPoints}
 use Rattle.board.specs.Windows.{never}
 use Rattle.board.specs.Events.{noPoint}
 use Rattle.promise.specs.Plays.{leastOf, setOf}
-use Rattle.steps.specs.Events.{nearer, nearestFrom, nearest, earlier}
+use Rattle.steps.specs.Found.{lowBy, endBy, endsThen, nearer, nearestFrom, nearest, earlier, firstBy, eventAt, eventBy}
 use Rattle.steps.specs.declared.Least.{Least}
 
 -- ---- one point, and the event
@@ -31,6 +31,14 @@ aim-first aim t h = rw (le-leb (aim .minute) t h) refl
 
 pub end-first : (aim : Least) (t : ℕ) → t < aim .minute → record { minute = t; point = noPoint } ≡ earlier aim t
 end-first aim t h = rw (lt-leb (aim .minute) t h) refl
+
+-- the event, from what is found
+pub event-made : (kept starts w : List ℕ) (n : ℕ) {aim end first : Least} {set : ℕ} → aim ≡ nearest (lowBy kept starts n) → end ≡ nearest (endBy kept starts w)
+    → first ≡ earlier aim (end .minute) → set ≡ setOf (endsThen kept starts w (first .minute)) (from 0 mostPoints)
+    → record { minute = first .minute; point = first .point; set = set } ≡ eventBy kept starts n w
+event-made kept starts w n {aim} {end} {first} {set} ea ee ef es =
+    let f : first ≡ firstBy kept starts n w = ef ∙ (λ i. earlier (ea i) (ee i .minute)) in
+    (λ i. record { minute = first .minute; point = first .point; set = es i }) ∙ ap (eventAt kept starts w) f
 
 -- ---- the loops
 

@@ -9,10 +9,8 @@ ghost use Rattle.plan.specs.APlan.{one};
 ghost use Rattle.lowhigh.specs.Rules.{never};
 ghost use Rattle.kept.specs.Rooms.{reachOf, holding, lowBy, runBy, highBy};
 
-mod begins;
 mod changes;
 
-pub use begins::begin_kept;
 pub use changes::do_event;
 use history::wide;
 use lowhigh::FARTHEST;
@@ -79,7 +77,7 @@ fn beyond(x: u64, y: u64) -> u64
 }
 
 // The sum, and the largest number where there is none.
-fn sum(x: u32, y: u32) -> u32
+pub fn sum(x: u32, y: u32) -> u32
     ensures { λ r. ⌜ r ≡ min (x + y) never ⌝ }
 {
     capped(wide(x) + wide(y))
@@ -100,7 +98,7 @@ pub fn is_holding(row: Row) -> bool
 }
 
 // One where it does.
-fn hold(row: Row) -> u32
+pub fn hold(row: Row) -> u32
     ensures { λ r. ⌜ r ≡ one (holding row) ⌝ }
 {
     one_if(is_holding(row))

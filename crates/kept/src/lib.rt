@@ -9,10 +9,8 @@ ghost use Rattle.plan.specs.APlan.{one};
 ghost use Rattle.lowhigh.specs.Rules.{never};
 ghost use Rattle.kept.specs.Rooms.{reachOf, holding, lowBy, runBy, highBy};
 
-mod begins;
 mod changes;
 
-pub use begins::begin_kept;
 pub use changes::do_event;
 use history::wide;
 use lowhigh::FARTHEST;
@@ -100,7 +98,7 @@ pub fn is_holding(row: Row) -> bool
 }
 
 // One where it does.
-fn hold(row: Row) -> u32
+pub fn hold(row: Row) -> u32
     ensures { λ r. ⌜ r ≡ one (holding row) ⌝ }
 {
     one_if(is_holding(row))

@@ -11,8 +11,11 @@ ghost use Rattle.rows.specs.Layout.{LaidOut};
 ghost use Rattle.neighbours.specs.Lists.{keyAt, Indexed};
 ghost use Rattle.kept.specs.Begins.{Begun};
 ghost use Rattle.rooms.specs.Filling.{Filled, BeginsWith};
+
+mod begins;
+
+use begins::begin_kept;
 use kept::KEPT;
-use kept::begin_kept;
 use links::Links;
 use links::links_of;
 use neighbours::LIST;

@@ -3,13 +3,13 @@ ghost use mathlib.Core.Path.{_≡_};
 ghost use Prim.Native.Nat.{_≤_};
 ghost use lib.ListN.{replicate};
 ghost use Rattle.plan.specs.Limits.{mostRecords};
 ghost use Rattle.kept.specs.Rooms.{keptRoom};
 ghost use Rattle.kept.specs.Begins.{Begun};
-use crate::HIGHS;
-use crate::KEPT;
-use crate::hold;
-use crate::place;
-use crate::sum;
+use kept::HIGHS;
+use kept::KEPT;
+use kept::hold;
+use kept::place;
+use kept::sum;
 use lowhigh::NEVER;
 use neighbours::SIDE;
 use rows::SHEET;
@@ -31,7 +31,7 @@ fn clear(kept: &mut [u32; KEPT], rows: &[u64; SHEET])
 }
 
 // Each of the first `count` records that holds a point is counted.
-pub fn begin_kept(rows: &[u64; SHEET], count: usize, kept: &mut [u32; KEPT])
+pub(crate) fn begin_kept(rows: &[u64; SHEET], count: usize, kept: &mut [u32; KEPT])
     requires { ⌜ count ≤ mostRecords ⌝ }
     ensures { λ _. ⌜ Begun (now (rows .entry)) count (now (kept .exit)) ⌝ }
 {

@@ -1,13 +1,13 @@
--- `kept::begins::begin_kept` meets its contract. Assumes nothing.
+-- `rooms::begins::begin_kept` meets its contract. Assumes nothing.
 use native.Mathlib.Omega.{arith}
 use borrow.Author.Needs.{needs}
 use mathlib.Core.Path.{_≡_}
 use Prim.Native.Nat.{_-_, _≤_}
 use Rattle.plan.specs.Limits.{mostRecords}
 use Rattle.kept.specs.Begins.{Begun}
-use Rattle.kept.proofs.Beginning.{begun-turn}
-use Rattle.kept.proofs.begins.begin_kept.Statement.{statement}
-use Rattle.kept.proofs.begins.begin_kept.Tie as tie
+use Rattle.rooms.proofs.Counting.{begun-turn}
+use Rattle.rooms.proofs.begins.begin_kept.Statement.{statement}
+use Rattle.rooms.proofs.begins.begin_kept.Tie as tie
 
 abbrev Inv-loop : tie.InvT-loop
 Inv-loop rows count kept₀ i₀ kept i = (i ≤ count) × (count ≤ mostRecords) × Begun rows i kept

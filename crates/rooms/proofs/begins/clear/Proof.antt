@@ -1,11 +1,11 @@
--- `kept::begins::clear` meets its contract. Assumes nothing.
+-- `rooms::begins::clear` meets its contract. Assumes nothing.
 use native.Mathlib.Omega.{arith}
 use borrow.Author.Needs.{needs}
 use Prim.Native.Nat.{_-_}
 use Rattle.plan.specs.Limits.{mostPoints}
-use Rattle.kept.proofs.Beginning.{Clearing, clearing-start, clearing-turn, clearing-end}
-use Rattle.kept.proofs.begins.clear.Statement.{statement}
-use Rattle.kept.proofs.begins.clear.Tie as tie
+use Rattle.rooms.proofs.Counting.{Clearing, clearing-start, clearing-turn, clearing-end}
+use Rattle.rooms.proofs.begins.clear.Statement.{statement}
+use Rattle.rooms.proofs.begins.clear.Tie as tie
 
 abbrev Inv-loop : tie.InvT-loop
 Inv-loop kept₀ rows q₀ kept q = Clearing q kept

@@ -2,15 +2,14 @@
 -- fresh board. Assumes nothing.
 use mathlib.Core.Path.{_≡_, refl, _∙_, sym, ap}
 use mathlib.Core.List.{List}
-use Prim.Native.Nat.{ℕ, suc, _+_, _*_, _<_, _≤_}
+use Prim.Native.Nat.{ℕ, _+_, _*_, _<_, _≤_}
 use native.Mathlib.Decide.{ℕ-discrete, decLt}
 use native.Mathlib.Omega.{arith}
-use mathlib.Core.Bool.{Bool, true, false}
+use mathlib.Core.Bool.{false}
 use borrow.Author.Tests.{ltb-false}
 use lib.Dec.{eqb, ltb}
 use lib.ListN.{length, getD, set, replicate, length-set, length-take, length-replicate, getD-replicate, List·getD-eq-default}
 use lib.Seq.{getD-set-same, getD-set-other}
-use Rattle.plan.specs.Choice.{if_then_else_}
 use Rattle.plan.specs.Limits.{mostRecords}
 use Rattle.plan.specs.APlan.{recordsOf}
 use Rattle.plan.specs.ReplyNumbers.{checkOf, checkWith, refusal}
@@ -18,7 +17,6 @@ use Rattle.plan.specs.declared.Plan.{Plan}
 use Rattle.plan.specs.declared.Refusal.{Refusal}
 use Rattle.plan.proofs.Accepted.{accepted-plan}
 use Rattle.plan.proofs.Entries.{past}
-use Rattle.records.specs.declared.Record.{Record}
 use Rattle.links.specs.Inside.{LinksOf}
 use Rattle.links.specs.declared.Links.{Links}
 use Rattle.rows.specs.Sheet.{width, sheetRoom}
@@ -26,7 +24,7 @@ use Rattle.rows.specs.Layout.{LaidOut}
 use Rattle.neighbours.specs.Lists.{keyAt, Indexed}
 use Rattle.kept.specs.Begins.{Begun}
 use Rattle.board.specs.Boards.{fresh}
-use Rattle.keeping.specs.Keeps.{Listed, KeptOf}
+use Rattle.keeping.specs.Keeps.{KeptOf}
 use Rattle.keeping.proofs.Fresh.{kept-fresh}
 use Rattle.rooms.specs.Filling.{Copied, Laid, Filled, BeginsWith}
 use Rattle.rooms.specs.declared.Started.{Started}

@@ -3,11 +3,11 @@
 use mathlib.Core.Path.{_≡_, refl, _∙_, sym, ap}
 use mathlib.Core.Bool.{Bool, true, false, not}
 use mathlib.Core.List.{List, [], _∷_}
-use Prim.Native.Nat.{ℕ, _+_, _^_, _<_, _≤_}
+use Prim.Native.Nat.{ℕ, _<_, _≤_}
 use native.Mathlib.Omega.{arith}
-use borrow.Author.Tests.{eq-eqb, eqb-true, eqb-false}
+use borrow.Author.Tests.{eq-eqb, eqb-true}
 use lib.Dec.{lit<, eqb}
-use lib.ListN.{length, getD, length-replicate}
+use lib.ListN.{length, length-replicate}
 use lib.Seq.{ext-getD}
 use Rattle.plan.specs.Choice.{if_then_else_}
 use Rattle.plan.specs.Limits.{mostPoints, mostRecords}
@@ -18,9 +18,8 @@ use Rattle.plan.specs.declared.Refusal.{Refusal}
 use Rattle.plan.proofs.Accepted.{Accepted, accepted-plan}
 use Rattle.records.specs.declared.Record.{Record}
 use Rattle.links.specs.declared.Links.{Links}
-use Rattle.events.specs.Fields.{eventPoint, eventSet}
 use Rattle.events.specs.Inside.{eventIn}
-use Rattle.windows.specs.Inside.{WindowsOf, besideFrom}
+use Rattle.windows.specs.Inside.{WindowsOf}
 use Rattle.windows.specs.declared.Windows.{Windows}
 use Rattle.board.specs.Boards.{fresh, sound}
 use Rattle.board.specs.Events.{eventNumber, eventRecord, boardAfter, taken, takeOf}
@@ -31,18 +30,17 @@ use Rattle.board.proofs.Theorems.Soundness.{HeldBoard, fresh-sound}
 use Rattle.board.proofs.Theorems.Taking.{event-sound, event-marks}
 use Rattle.replies.specs.Replies.{soundReply, replyOf}
 use Rattle.replies.specs.declared.Reply.{Reply}
-use Rattle.planless.specs.ByWindows.{numberBy, withRecord}
-use Rattle.planless_board.specs.ByWindows.{eventBy, replyBy}
+use Rattle.planless.specs.ByWindows.{withRecord}
+use Rattle.planless_board.specs.ByWindows.{eventBy}
 use Rattle.planless_board.proofs.ByPlan.{reply-same, number-same, record-same}
-use Rattle.kept.specs.Rooms.{minutesAt, callsAt, eventDoneBy}
-use Rattle.keeping.specs.Keeps.{KeptOf}
+use Rattle.kept.specs.Rooms.{eventDoneBy}
 use Rattle.keeping.proofs.Taken.{kept-event}
 use Rattle.kept_windows.specs.Answers.{Answered}
 use Rattle.kept_windows.proofs.Answering.{windows-are}
 use Rattle.rooms.specs.Filling.{BeginsWith}
 use Rattle.rooms.specs.declared.Started.{Started}
 use Rattle.rooms.proofs.Beginning.{few-records, all-records, fresh-kept}
-use Rattle.engine.specs.Takes.{TableAt, BoardIn, NumbersWith, TakesWith, RepliesWith}
+use Rattle.engine.specs.Takes.{BoardIn, NumbersWith, TakesWith, RepliesWith}
 use Rattle.engine.specs.Agreement.{Agrees, Runs, ended, went}
 
 -- ---- the beginning

@@ -1,17 +1,16 @@
 -- What is kept after an event's points are done is what the whole plan gives after them. Assumes that the records keep the rules of a
 -- plan.
 use mathlib.Core.Path.{_≡_, refl, _∙_, sym, ap}
-use mathlib.Core.Bool.{Bool, true, false, not, _&&_, _||_}
+use mathlib.Core.Bool.{Bool, true, false, _||_}
 use mathlib.Core.List.{List, [], _∷_}
-use Prim.Native.Nat.{ℕ, zero, suc, _+_, _*_, _-_, _%_, _<_, _≤_}
+use Prim.Native.Nat.{ℕ, _+_, _-_, _%_, _<_, _≤_}
 use native.Mathlib.Omega.{arith}
 use native.Mathlib.Decide.{ℕ-discrete}
-use borrow.Author.Tests.{eq-eqb, ne-eqb, eqb-true}
+use borrow.Author.Tests.{ne-eqb, eqb-true}
 use lib.Dec.{eqb, ltb}
 use lib.ListN.{length, getD, set, length-set}
 use lib.Seq.{getD-set-same, getD-set-other}
 use Rattle.points.specs.Sets.{member, withOf}
-use Rattle.plan.specs.Choice.{if_then_else_}
 use Rattle.plan.specs.Limits.{mostPoints, mostRecords, farthest}
 use Rattle.plan.specs.APlan.{wait, is, blank, linkTo, watched}
 use Rattle.records.specs.declared.Record.{Record}
@@ -20,17 +19,16 @@ use Rattle.history.specs.History.{minuteIn}
 use Rattle.history.proofs.Tests.{clash}
 use Rattle.lowhigh.specs.Rules.{never}
 use Rattle.rows.specs.declared.sheet.Row.{Row}
-use Rattle.rows.specs.Sheet.{rowAt}
 use Rattle.rows.specs.Layout.{rowOf}
-use Rattle.neighbours.specs.Lists.{buckets, keyOf, keyAt, entriesOf}
+use Rattle.neighbours.specs.Lists.{keyOf, keyAt, entriesOf}
 use Rattle.neighbours.proofs.Listing.{entries}
-use Rattle.kept.specs.Rooms.{lowsAt, runsAt, highsAt, minutesAt, callsAt, clockAt, doneAt, lastAt, keptRoom, heldBy, markedBy, doneBy, allDoneBy}
+use Rattle.kept.specs.Rooms.{lowsAt, runsAt, highsAt, minutesAt, callsAt, clockAt, doneAt, lastAt, heldBy, markedBy, doneBy, allDoneBy}
 use Rattle.keeping.specs.Counts.{waitOf}
 use Rattle.keeping.specs.Keeps.{Listed, Kept}
 use Rattle.keeping.proofs.Changes.{done-more, minute-same, minute-new}
 use Rattle.keeping.proofs.Marking.{holds-kept, lows-kept, highs-kept, minutes-kept, calls-kept, runs-kept, long-all, clock-kept, last-kept, done-kept}
 use Rattle.keeping.proofs.Folding.{heldAt}
-use Rattle.keeping.proofs.Laying.{Fine, all-fine, row-is}
+use Rattle.keeping.proofs.Laying.{all-fine, row-is}
 use Rattle.keeping.proofs.Ending.{Shows, heldIn, not-held, Remade, remade, by-dec}
 
 -- of what is done: there is room for it, the minutes are small, and each ended link was started

@@ -3,28 +3,27 @@ use mathlib.Core.Path.{_≡_, refl, _∙_, sym, ap}
 use mathlib.Core.Bool.{Bool, true, false, not, _&&_, _||_}
 use mathlib.Core.List.{List, [], _∷_}
 use mathlib.Core.Logic.{_⊎_, ⊎-elim}
-use Prim.Native.Nat.{ℕ, zero, suc, _+_, _*_, _-_, _%_, _<_, _≤_, min, max}
+use Prim.Native.Nat.{ℕ, zero, suc, _+_, _-_, _%_, _<_, _≤_}
 use native.Mathlib.Omega.{arith}
 use native.Mathlib.Decide.{ℕ-discrete}
-use borrow.Author.Tests.{lt-ltb, eq-eqb, ne-eqb, eqb-true}
-use lib.Dec.{eqb, ltb}
+use borrow.Author.Tests.{eq-eqb, ne-eqb, eqb-true}
+use lib.Dec.{eqb}
 use lib.ListN.{length, getD, set, length-set}
 use lib.Seq.{getD-set-same, getD-set-other}
 use Rattle.points.specs.Sets.{member}
 use Rattle.plan.specs.Choice.{if_then_else_}
 use Rattle.plan.specs.Limits.{mostPoints, mostRecords, farthest}
-use Rattle.plan.specs.APlan.{ordinary, wait, link, is, blank, linkTo, gapOf, watched}
+use Rattle.plan.specs.APlan.{wait, is, blank, linkTo, gapOf, watched}
 use Rattle.records.specs.declared.Record.{Record}
 use Rattle.plan.proofs.Accepted.{Accepted}
-use Rattle.history.specs.History.{minuteIn, runs}
+use Rattle.history.specs.History.{minuteIn}
 use Rattle.history.proofs.Tests.{clash, either}
-use Rattle.lowhigh.specs.Rules.{greatest, never}
+use Rattle.lowhigh.specs.Rules.{never}
 use Rattle.rows.specs.declared.sheet.Row.{Row}
-use Rattle.rows.specs.Sheet.{rowAt}
 use Rattle.rows.specs.Layout.{rowOf}
 use Rattle.neighbours.specs.Lists.{buckets, keyOf, keyAt, placesOf, entriesOf, over, topAt}
 use Rattle.neighbours.proofs.Listing.{entries}
-use Rattle.kept.specs.Rooms.{runsAt, highsAt, minutesAt, doneAt, keptRoom, reachOf, running, runningAt, remadeAt}
+use Rattle.kept.specs.Rooms.{runsAt, highsAt, minutesAt, doneAt, keptRoom, running, runningAt, remadeAt}
 use Rattle.keeping.specs.Counts.{awaits, waitOf}
 use Rattle.keeping.specs.Keeps.{Listed}
 use Rattle.keeping.proofs.Folding.{heldAt, top-places}

@@ -1,21 +1,21 @@
 -- What a fold along a list of entries does to each place of the room, and what the entries of a list give together: a
 -- count, largest or least over all records. Assumes nothing.
-use mathlib.Core.Path.{_≡_, refl, _∙_, sym, ap}
-use mathlib.Core.Bool.{Bool, true, false, not, _&&_, _||_}
+use mathlib.Core.Path.{_≡_, refl, _∙_, sym}
+use mathlib.Core.Bool.{Bool, true, false, _&&_}
 use mathlib.Core.List.{List, [], _∷_}
-use Prim.Native.Nat.{ℕ, zero, suc, _+_, _*_, _-_, _%_, _<_, _≤_, min, max}
+use Prim.Native.Nat.{ℕ, suc, _+_, _-_, _<_, _≤_, min, max}
 use native.Mathlib.Omega.{arith}
 use native.Mathlib.Decide.{ℕ-discrete}
 use borrow.Author.Tests.{eq-eqb, ne-eqb}
-use lib.Dec.{eqb, ltb}
+use lib.Dec.{eqb}
 use lib.ListN.{length, getD, set, length-set}
 use lib.Seq.{getD-set-same, getD-set-other}
 use Rattle.plan.specs.Choice.{if_then_else_}
-use Rattle.plan.specs.Limits.{mostPoints, mostRecords}
+use Rattle.plan.specs.Limits.{mostPoints}
 use Rattle.plan.specs.APlan.{one, howMany, blank}
 use Rattle.records.specs.declared.Record.{Record}
 use Rattle.history.proofs.Tests.{clash}
-use Rattle.plan.specs.declared.Found.the-variants.{At, Nothing}
+use Rattle.plan.specs.declared.Found.the-variants.{At}
 use Rattle.lowhigh.specs.Rules.{greatest, least, never, placeFrom, numberAt}
 use Rattle.rows.specs.Sheet.{rowAt}
 use Rattle.neighbours.specs.Lists.{placesOf, over, topAt, firstAt}

@@ -1,12 +1,11 @@
 -- What the whole plan gives at the fresh board, and that the room begins with it. Assumes that the records keep the rules of a plan.
 use mathlib.Core.Path.{_≡_, refl, _∙_, sym, ap}
-use mathlib.Core.Bool.{Bool, true, false, not, _&&_, _||_}
+use mathlib.Core.Bool.{Bool, true, false, _&&_, _||_}
 use mathlib.Core.List.{List, [], _∷_}
-use Prim.Native.Nat.{ℕ, zero, suc, _+_, _-_, _%_, _<_, _≤_, min, max}
+use Prim.Native.Nat.{ℕ, zero, suc, _+_, _-_, _%_, _≤_, min}
 use native.Mathlib.Omega.{arith}
 use lib.Dec.{eqb, ltb}
-use lib.ListN.{length, getD, take, replicate, getD-replicate}
-use Rattle.points.specs.Sets.{member, membersOf}
+use lib.ListN.{length, getD, take, getD-replicate}
 use Rattle.points.proofs.Laws.{member-empty, members-empty}
 use Rattle.plan.specs.Choice.{if_then_else_}
 use Rattle.plan.specs.Limits.{mostPoints, mostRecords, farthest}
@@ -19,12 +18,11 @@ use Rattle.lowhigh.specs.Rules.{shuts, greatest, least, bound, never}
 use Rattle.board.specs.Boards.{fresh}
 use Rattle.board.specs.Calls.{lastCall}
 use Rattle.rows.specs.declared.sheet.Row.{Row}
-use Rattle.rows.specs.Sheet.{rowAt}
 use Rattle.rows.specs.Layout.{LaidOut, rowOf}
 use Rattle.kept.specs.Rooms.{lowsAt, runsAt, highsAt, minutesAt, callsAt, clockAt, doneAt, lastAt, holding, heldBy}
 use Rattle.kept.specs.Begins.{holdAt, sumTo, Begun}
 use Rattle.keeping.specs.Counts.{holdsOf, lowOf, waitOf, highOf, after, awaits, holdsFirst}
-use Rattle.keeping.specs.Keeps.{Kept, KeptOf}
+use Rattle.keeping.specs.Keeps.{KeptOf}
 use Rattle.keeping.proofs.Laying.{Fine, by-kind, all-fine, row-is}
 
 -- ---- the whole plan at the fresh board

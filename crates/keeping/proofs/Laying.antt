@@ -1,16 +1,16 @@
 -- What a record's row says, by the record's kind: the entries of a list together are what the rules count. Assumes that the records
 -- keep the rules of a plan.
 use mathlib.Core.Path.{_≡_, refl, _∙_, sym, ap}
-use mathlib.Core.Bool.{Bool, true, false, not, _&&_, _||_}
-use mathlib.Core.List.{List, [], _∷_}
-use Prim.Native.Nat.{ℕ, zero, suc, _+_, _*_, _-_, _%_, _^_, _<_, _≤_, min, max}
+use mathlib.Core.Bool.{Bool, true, false, _&&_, _||_}
+use mathlib.Core.List.{List}
+use Prim.Native.Nat.{ℕ, _+_, _-_, _%_, _^_, _<_, _≤_, min}
 use native.Mathlib.Omega.{arith}
-use borrow.Author.Tests.{lt-ltb, eq-eqb, ne-eqb, eqb-true}
+use borrow.Author.Tests.{lt-ltb, ne-eqb, eqb-true}
 use lib.Dec.{eqb, ltb}
 use lib.ListN.{length, getD}
 use Rattle.plan.specs.Choice.{if_then_else_}
 use Rattle.plan.specs.Limits.{mostPoints, mostRecords, farthest}
-use Rattle.plan.specs.APlan.{ordinary, wait, point, link, is, one, howMany, kindOf, blank, linkTo, gapOf, watched, points}
+use Rattle.plan.specs.APlan.{ordinary, wait, point, link, is, one, howMany, kindOf, blank, linkTo, gapOf, watched}
 use Rattle.plan.specs.ReplyNumbers.{isKnown}
 use Rattle.records.specs.declared.Record.{Record}
 use Rattle.plan.proofs.Accepted.{Accepted, not-a}
@@ -18,8 +18,8 @@ use Rattle.history.proofs.Tests.{clash}
 use Rattle.lowhigh.specs.Rules.{greatest, least, never}
 use Rattle.rows.specs.declared.sheet.Row.{Row}
 use Rattle.rows.specs.Sheet.{rowAt}
-use Rattle.rows.specs.Layout.{RowIs, LaidOut, rowOf}
-use Rattle.neighbours.specs.Lists.{buckets, keyOf, keyAt, placesOf, entriesOf, topAt}
+use Rattle.rows.specs.Layout.{RowIs, rowOf}
+use Rattle.neighbours.specs.Lists.{buckets, keyOf, keyAt, entriesOf, topAt}
 use Rattle.neighbours.proofs.Listing.{entries}
 use Rattle.kept.specs.Rooms.{reachOf, holding, heldBy, overBy, lowBy, runBy, highBy}
 use Rattle.keeping.specs.Counts.{frees, afterBy, boundBy, startsBy}

@@ -1,28 +1,28 @@
 -- What is kept after one point more is done is what the whole plan gives with that point done; the running waits of the points with a
 -- wait on a link that ends there are left to `Ending`. Assumes that the records keep the rules of a plan.
 use mathlib.Core.Path.{_≡_, refl, _∙_, sym, ap}
-use mathlib.Core.Bool.{Bool, true, false, not, _&&_, _||_}
+use mathlib.Core.Bool.{Bool, true, false, not, _&&_}
 use mathlib.Core.List.{List, [], _∷_}
-use Prim.Native.Nat.{ℕ, zero, suc, _+_, _*_, _-_, _%_, _<_, _≤_, min, max}
+use Prim.Native.Nat.{ℕ, suc, _+_, _-_, _<_, _≤_, max}
 use native.Mathlib.Omega.{arith}
 use native.Mathlib.Decide.{ℕ-discrete}
-use borrow.Author.Tests.{eq-eqb, ne-eqb, eqb-true}
-use lib.Dec.{eqb, ltb}
+use borrow.Author.Tests.{eq-eqb, ne-eqb}
+use lib.Dec.{eqb}
 use lib.ListN.{length, getD, set, length-set}
 use lib.Seq.{getD-set-same, getD-set-other}
 use Rattle.points.specs.Sets.{member, withOf}
 use Rattle.plan.specs.Choice.{if_then_else_}
 use Rattle.plan.specs.Limits.{mostPoints, mostRecords, farthest}
-use Rattle.plan.specs.APlan.{ordinary, wait, link, is, one, howMany, blank, linkTo, gapOf, watched}
+use Rattle.plan.specs.APlan.{wait, is, howMany, blank, linkTo, gapOf, watched}
 use Rattle.records.specs.declared.Record.{Record}
 use Rattle.plan.proofs.Accepted.{Accepted}
-use Rattle.history.specs.History.{minuteIn, runs}
+use Rattle.history.specs.History.{minuteIn}
 use Rattle.history.proofs.Tests.{clash}
 use Rattle.calls.specs.Calls.{callIn}
-use Rattle.lowhigh.specs.Rules.{greatest, least, never, bound as bound-of}
+use Rattle.lowhigh.specs.Rules.{greatest, never, bound as bound-of}
 use Rattle.neighbours.specs.Lists.{entriesOf, over}
 use Rattle.kept.specs.Rooms.{lowsAt, runsAt, highsAt, minutesAt, callsAt, clockAt, doneAt, lastAt, keptRoom, freedAt, boundedAt, markedBy}
-use Rattle.keeping.specs.Counts.{holdsOf, lowOf, waitOf, highOf, awaits, frees, afterBy, boundBy, startsBy}
+use Rattle.keeping.specs.Counts.{holdsOf, lowOf, waitOf, highOf, awaits, frees, startsBy}
 use Rattle.keeping.specs.Keeps.{Listed, Kept}
 use Rattle.keeping.proofs.Changes.{holds-fall, low-rises, high-falls, least-never, done-more, minute-same, minute-new}
 use Rattle.keeping.proofs.Folding.{freed, bounded}

@@ -1,33 +1,33 @@
 -- A taken event: what is kept after it is what the whole plan gives at the plain engine's board after it. Assumes that the plan passes
 -- the check, that the board is sound and has its room, and that the event's set is one of 32 bits.
-use mathlib.Core.Path.{_≡_, refl, _∙_, sym, ap}
-use mathlib.Core.Logic.{_⊎_, inl, inr, ⊎-elim}
-use mathlib.Core.Bool.{Bool, true, false, not, _&&_, _||_, cond}
+use mathlib.Core.Path.{_≡_, refl, _∙_, sym}
+use mathlib.Core.Logic.{_⊎_, ⊎-elim}
+use mathlib.Core.Bool.{Bool, true, false, _||_, cond}
 use mathlib.Core.List.{List, [], _∷_, _++_, append-nil}
-use Prim.Native.Nat.{ℕ, zero, suc, _+_, _*_, _-_, _^_, _<_, _≤_}
+use Prim.Native.Nat.{ℕ, zero, suc, _+_, _-_, _^_, _<_, _≤_}
 use native.Mathlib.Omega.{arith}
-use borrow.Author.Tests.{eq-eqb, ne-eqb, eqb-true, lt-ltb, le-ltb}
+use borrow.Author.Tests.{eq-eqb, ne-eqb, eqb-true, lt-ltb}
 use lib.Dec.{eqb}
-use lib.ListN.{length, getD, set}
-use Rattle.points.specs.Sets.{member, membersOf, passing, from, countOf, withOf}
+use lib.ListN.{length, set}
+use Rattle.points.specs.Sets.{member, membersOf, passing, from, withOf}
 use Rattle.points.proofs.Laws.{count-le}
 use Rattle.plan.specs.Choice.{if_then_else_}
 use Rattle.plan.specs.Limits.{mostPoints, mostRecords, farthest}
-use Rattle.plan.specs.APlan.{link, is, linkTo, watched, recordsOf, points}
+use Rattle.plan.specs.APlan.{link, is, linkTo, watched, recordsOf}
 use Rattle.plan.specs.ReplyNumbers.{checkOf}
 use Rattle.records.specs.declared.Record.{Record}
 use Rattle.plan.specs.declared.Plan.{Plan}
 use Rattle.plan.proofs.Accepted.{Accepted, accepted-plan}
 use Rattle.lowhigh.specs.Rules.{never}
 use Rattle.events.specs.Inside.{eventIn}
-use Rattle.board.specs.Boards.{isDone, minute, sound}
+use Rattle.board.specs.Boards.{isDone, sound}
 use Rattle.board.specs.Calls.{lastCall, nextCall}
 use Rattle.board.specs.Events.{eventMinute, eventPoint, eventSet, eventPoints, noPoint, eventNumber, boardAfter, markAll}
 use Rattle.board.specs.declared.Board.{Board}
 use Rattle.board.proofs.Theorems.Each.{clash, both, either, has, has-append, has-members, members-has}
 use Rattle.board.proofs.Theorems.Soundness.{HeldBoard, Sound, sound-means, few-calls}
 use Rattle.board.proofs.Theorems.Links.{sound-to}
-use Rattle.board.proofs.Theorems.Marks.{names, named-set, named-point}
+use Rattle.board.proofs.Theorems.Marks.{named-set}
 use Rattle.board.proofs.Theorems.Taking.{Takes, takes, opened, fresh-points, event-sound, event-marks, event-call}
 use Rattle.kept.specs.Rooms.{clockAt, lastAt, nextIn, pointsOf, allDoneBy, eventDoneBy}
 use Rattle.keeping.specs.Keeps.{Listed, Kept, KeptOf}

@@ -1,8 +1,8 @@
 -- What the code of each step has, call by call, is what its contract says. Assumes nothing.
-use mathlib.Core.Path.{_≡_, refl}
+use mathlib.Core.Path.{_≡_}
 use mathlib.Core.Bool.{Bool, not, _&&_}
 use mathlib.Core.List.{List}
-use Prim.Native.Nat.{ℕ, _+_, _-_, min, max}
+use Prim.Native.Nat.{ℕ, _+_, _-_, max}
 use lib.ListN.{getD, set}
 use Rattle.points.specs.Sets.{member, membersOf, withOf}
 use Rattle.plan.specs.Choice.{if_then_else_}

@@ -12,7 +12,7 @@ use Rattle.plan.specs.APlan.{one}
 use Rattle.lowhigh.specs.Rules.{never}
 use Rattle.events.specs.declared.Event.{Event}
 use Rattle.rows.specs.declared.sheet.Row.{Row}
-use Rattle.rows.specs.Sheet.{rowAt, fromAt}
+use Rattle.rows.specs.Sheet.{rowAt}
 use Rattle.neighbours.specs.Lists.{entriesOf, over, topAt}
 
 -- ---- the places: how many records hold each point, then its window so far, its running waits, its High, its minute and the number of

@@ -3,7 +3,7 @@
 use mathlib.Core.Path.{_≡_, refl, _∙_, sym, ap}
 use mathlib.Core.Bool.{Bool, true, false, not, _&&_, _||_}
 use mathlib.Core.List.{List, [], _∷_}
-use Prim.Native.Nat.{ℕ, suc, _+_, _%_, _<_, _≤_}
+use Prim.Native.Nat.{ℕ, _+_, _%_, _<_, _≤_}
 use native.Mathlib.Omega.{arith}
 use borrow.Author.Tests.{ne-eqb}
 use lib.Dec.{eqb, ltb}
@@ -12,7 +12,7 @@ use lib.Seq.{getD-drop}
 use Rattle.points.specs.Sets.{member}
 use Rattle.plan.specs.Choice.{if_then_else_}
 use Rattle.plan.specs.Limits.{mostPoints, mostRecords}
-use Rattle.plan.specs.APlan.{ordinary, wait, is, one, howMany, some, blank, linkTo, gapOf, points}
+use Rattle.plan.specs.APlan.{one, howMany, some, blank, linkTo, gapOf}
 use Rattle.records.specs.declared.Record.{Record}
 use Rattle.plan.proofs.Accepted.{Accepted}
 use Rattle.links.specs.Inside.{LinksOf}
@@ -25,7 +25,6 @@ use Rattle.lowhigh.proofs.Firsts.{nothing-so}
 use Rattle.windows.specs.Inside.{WindowsOf}
 use Rattle.windows.specs.declared.Windows.{Windows}
 use Rattle.rows.specs.declared.sheet.Row.{Row}
-use Rattle.rows.specs.Sheet.{rowAt}
 use Rattle.rows.specs.Layout.{rowOf}
 use Rattle.neighbours.specs.Lists.{buckets, keyOf, keyAt, entriesOf, firstAt}
 use Rattle.neighbours.proofs.Listing.{entries}
@@ -34,7 +33,7 @@ use Rattle.keeping.specs.Keeps.{Listed, Kept}
 use Rattle.keeping.proofs.Changes.{low-is}
 use Rattle.keeping.proofs.Folding.{first-places}
 use Rattle.keeping.proofs.Laying.{Fine, by-kind, all-fine, row-is}
-use Rattle.kept_windows.specs.Answers.{openAt, lowAt, shutBy, shutAt, holderAt, Answered}
+use Rattle.kept_windows.specs.Answers.{openAt, shutBy, shutAt, holderAt, Answered}
 
 -- none is so exactly where the count is 0
 pub none-is : (so : Record → Bool) (rs : List Record) → eqb (howMany so rs) 0 ≡ not (some so rs)

@@ -1,10 +1,10 @@
 -- The loops over the points: the open ones and each one's Low from the last point to the first, and the least High of some. Assumes
 -- nothing.
-use mathlib.Core.Path.{_≡_, refl, _∙_, sym, ap}
-use mathlib.Core.Bool.{Bool, true, false, not, _&&_, _||_}
+use mathlib.Core.Path.{_≡_, refl, _∙_}
+use mathlib.Core.Bool.{Bool, true, false, not, _&&_}
 use mathlib.Core.List.{List, [], _∷_}
 use mathlib.Core.Logic.{by-cases}
-use Prim.Native.Nat.{ℕ, zero, suc, _+_, _-_, _^_, _<_, _≤_, min, max}
+use Prim.Native.Nat.{ℕ, suc, _+_, _-_, _^_, _<_, _≤_, min}
 use native.Mathlib.Omega.{arith}
 use native.Mathlib.Decide.{ℕ-discrete, decLt}
 use borrow.Author.Tests.{eq-eqb, ne-eqb, lt-ltb, le-ltb}
@@ -17,7 +17,6 @@ use Rattle.plan.specs.Choice.{if_then_else_}
 use Rattle.plan.specs.Limits.{mostPoints}
 use Rattle.lowhigh.specs.Rules.{never}
 use Rattle.windows.specs.Inside.{leastAt}
-use Rattle.windows.specs.declared.Windows.{Windows}
 use Rattle.neighbours.specs.Lists.{entriesOf, firstAt}
 use Rattle.rows.specs.declared.sheet.Row.{Row}
 use Rattle.kept.specs.Rooms.{highsAt, doneAt, holding, untilBy}

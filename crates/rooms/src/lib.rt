@@ -7,10 +7,9 @@ ghost use lib.ListN.{length, replicate};
 ghost use Rattle.plan.specs.Limits.{mostRecords};
 ghost use Rattle.plan.specs.APlan.{recordsOf};
 ghost use Rattle.rows.specs.Sheet.{sheetRoom};
-ghost use Rattle.rows.specs.Layout.{LaidOut};
 ghost use Rattle.neighbours.specs.Lists.{keyAt, Indexed};
 ghost use Rattle.kept.specs.Begins.{Begun};
-ghost use Rattle.rooms.specs.Filling.{Filled, BeginsWith};
+ghost use Rattle.rooms.specs.Filling.{Copied, Laid, Filled, BeginsWith};
 
 mod begins;
 
@@ -21,6 +20,7 @@ use links::links_of;
 use neighbours::LIST;
 use neighbours::build;
 use plan::ACCEPTED;
+use plan::MOST_RECORDS;
 use plan::ORDINARY;
 use plan::Plan;
 use plan::WAIT;
@@ -34,6 +34,9 @@ pub struct Started {
     pub place: u32,
     pub links: Links,
 }
+
+// How many numbers a row has.
+const WIDTH: usize = SHEET / MOST_RECORDS;
 
 // The fields of a row by which it is listed: the point that sets its record free, its first point, and its second.
 const TO: usize = 2;
@@ -53,12 +56,26 @@ fn zeros(rows: &mut [u64; SHEET])
     *rows = [0; SHEET];
 }
 
-fn lay(plan: Plan, rows: &mut [u64; SHEET])
-    requires { ⌜ plan .count ≤ mostRecords ⌝ }
-    ensures { λ _. ⌜ LaidOut (recordsOf plan) (now (rows .exit)) ⌝ }
+// The first n numbers of a sheet, and zeros.
+fn copy(sheet: &[u64; SHEET], n: usize, rows: &mut [u64; SHEET])
+    requires { ⌜ n ≤ sheetRoom ⌝ }
+    ensures { λ _. ⌜ Copied (now (sheet .entry)) n (now (rows .exit)) ⌝ }
 {
     zeros(&mut *rows);
-    lay_out(plan, &mut *rows);
+    for p in 0..n {
+        rows[p] = sheet[p];
+    }
+}
+
+// The rows of the records, and zeros.
+fn lay(plan: Plan, rows: &mut [u64; SHEET])
+    requires { ⌜ plan .count ≤ mostRecords ⌝ }
+    ensures { λ _. ⌜ Laid (recordsOf plan) (plan .count) (now (rows .exit)) ⌝ }
+{
+    let mut sheet: [u64; SHEET] = [0; SHEET];
+    lay_out(plan, &mut sheet);
+    let n = plan.count as usize * WIDTH;
+    copy(&sheet, n, &mut *rows);
 }
 
 // The lists of the rows, and the counts.
@@ -105,8 +122,7 @@ fn fill(
     );
 }
 
-// The plan's own refusal, and the rooms as they were; else number 0, and every number that anything reads is the plan's at the fresh
-// board.
+// The plan's own refusal, and the rooms as they were; else number 0, and every number of the rooms is the plan's at the fresh board.
 pub fn begin(
     plan: Plan,
     rows: &mut [u64; SHEET],

@@ -1,5 +1,4 @@
 -- `engine::table` meets its contract. Assumes nothing.
-use native.Mathlib.Omega.{arith}
 use borrow.Author.Needs.{needs}
 use Prim.Native.Nat.{_+_, _-_, _≤_}
 use Rattle.plan.specs.Limits.{mostPoints}

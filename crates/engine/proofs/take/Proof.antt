@@ -1,5 +1,4 @@
 -- `engine::take` meets its contract. Assumes nothing.
-use native.Mathlib.Omega.{arith}
 use borrow.Author.Needs.{needs}
 use Rattle.engine.proofs.Reading.{formed, takes, refuses}
 use Rattle.engine.proofs.take.Statement.{statement}

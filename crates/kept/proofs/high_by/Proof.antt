@@ -1,5 +1,4 @@
 -- `kept::high_by` meets its contract. Assumes nothing.
-use native.Mathlib.Omega.{arith}
 use borrow.Author.Needs.{needs}
 use Rattle.kept.proofs.Steps.{high-said}
 use Rattle.kept.proofs.high_by.Statement.{statement}

@@ -1,5 +1,4 @@
 -- `kept::hold` meets its contract. Assumes nothing.
-use native.Mathlib.Omega.{arith}
 use borrow.Author.Needs.{needs}
 use Rattle.kept.proofs.hold.Statement.{statement}
 use Rattle.kept.proofs.hold.Tie as tie

@@ -1,5 +1,4 @@
 -- `kept::low_by` meets its contract. Assumes nothing.
-use native.Mathlib.Omega.{arith}
 use borrow.Author.Needs.{needs}
 use Rattle.kept.proofs.Steps.{low-said}
 use Rattle.kept.proofs.low_by.Statement.{statement}

@@ -1,5 +1,4 @@
 -- `kept::run_by` meets its contract. Assumes nothing.
-use native.Mathlib.Omega.{arith}
 use borrow.Author.Needs.{needs}
 use Rattle.kept.proofs.Steps.{run-said}
 use Rattle.kept.proofs.run_by.Statement.{statement}

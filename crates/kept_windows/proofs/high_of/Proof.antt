@@ -1,7 +1,7 @@
 -- `kept_windows::high_of` meets its contract. Assumes nothing.
 use native.Mathlib.Omega.{arith}
 use borrow.Author.Needs.{needs}
-use mathlib.Core.Path.{_≡_, refl, _∙_}
+use mathlib.Core.Path.{_≡_, _∙_}
 use Prim.Native.Nat.{_<_, _≤_, _^_, min}
 use lib.ListN.{drop}
 use Rattle.points.specs.Sets.{countOf, membersOf}

@@ -1,5 +1,4 @@
 -- `kept_windows::holder_at` meets its contract. Assumes nothing.
-use native.Mathlib.Omega.{arith}
 use borrow.Author.Needs.{needs}
 use Rattle.kept_windows.proofs.Opening.{not-held, still-held}
 use Rattle.kept_windows.proofs.holder_at.Statement.{statement}

@@ -1,5 +1,4 @@
 -- `kept_windows::is_open` meets its contract. Assumes nothing.
-use native.Mathlib.Omega.{arith}
 use borrow.Author.Needs.{needs}
 use Rattle.kept_windows.proofs.Opening.{open-by}
 use Rattle.kept_windows.proofs.is_open.Statement.{statement}

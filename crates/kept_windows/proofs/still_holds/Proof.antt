@@ -1,5 +1,4 @@
 -- `kept_windows::still_holds` meets its contract. Assumes nothing.
-use native.Mathlib.Omega.{arith}
 use borrow.Author.Needs.{needs}
 use Rattle.kept_windows.proofs.Opening.{shut-by}
 use Rattle.kept_windows.proofs.still_holds.Statement.{statement}

@@ -1,7 +1,6 @@
 -- `kept_windows::windows_of` meets its contract. Assumes nothing.
 use native.Mathlib.Omega.{arith}
 use borrow.Author.Needs.{needs}
-use mathlib.Core.Path.{_≡_, refl, _∙_}
 use Prim.Native.Nat.{_-_}
 use Rattle.kept_windows.proofs.Opening.{Sofar, sofar-start, sofar-turn, sofar-end}
 use Rattle.kept_windows.proofs.windows_of.Statement.{statement}

@@ -1,5 +1,4 @@
 -- `neighbours::key` meets its contract. Assumes nothing.
-use native.Mathlib.Omega.{arith}
 use borrow.Author.Needs.{needs}
 use Rattle.neighbours.proofs.Listing.{listed}
 use Rattle.neighbours.proofs.key.Statement.{statement}

@@ -1,5 +1,4 @@
 -- `neighbours::onward` meets its contract. Assumes nothing.
-use native.Mathlib.Omega.{arith}
 use borrow.Author.Needs.{needs}
 use Rattle.neighbours.proofs.Walking.{goes-on}
 use Rattle.neighbours.proofs.onward.Statement.{statement}

@@ -1,5 +1,4 @@
 -- `rooms::fill` meets its contract. Assumes nothing.
-use native.Mathlib.Omega.{arith}
 use borrow.Author.Needs.{needs}
 use lib.ListN.{length-map}
 use Rattle.rooms.proofs.Beginning.{filled-by}

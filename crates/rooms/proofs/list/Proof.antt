@@ -1,5 +1,4 @@
 -- `rooms::list` meets its contract. Assumes nothing.
-use native.Mathlib.Omega.{arith}
 use borrow.Author.Needs.{needs}
 use Rattle.rooms.proofs.list.Statement.{statement}
 use Rattle.rooms.proofs.list.Tie as tie

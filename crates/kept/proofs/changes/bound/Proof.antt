@@ -1,5 +1,4 @@
 -- `kept::changes::bound` meets its contract. Assumes nothing.
-use native.Mathlib.Omega.{arith}
 use borrow.Author.Needs.{needs}
 use Rattle.kept.proofs.changes.bound.Statement.{statement}
 use Rattle.kept.proofs.changes.bound.Tie as tie

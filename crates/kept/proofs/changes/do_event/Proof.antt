@@ -1,5 +1,4 @@
 -- `kept::changes::do_event` meets its contract. Assumes nothing.
-use native.Mathlib.Omega.{arith}
 use borrow.Author.Needs.{needs}
 use Rattle.kept.proofs.Steps.{event-by}
 use Rattle.kept.proofs.changes.do_event.Statement.{statement}

@@ -1,5 +1,4 @@
 -- `kept::changes::do_point` meets its contract. Assumes nothing.
-use native.Mathlib.Omega.{arith}
 use borrow.Author.Needs.{needs}
 use Rattle.kept.proofs.changes.do_point.Statement.{statement}
 use Rattle.kept.proofs.changes.do_point.Tie as tie

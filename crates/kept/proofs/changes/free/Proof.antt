@@ -1,5 +1,4 @@
 -- `kept::changes::free` meets its contract. Assumes nothing.
-use native.Mathlib.Omega.{arith}
 use borrow.Author.Needs.{needs}
 use Rattle.kept.proofs.Steps.{freed-by}
 use Rattle.kept.proofs.changes.free.Statement.{statement}

@@ -1,5 +1,4 @@
 -- `kept::changes::mark` meets its contract. Assumes nothing.
-use native.Mathlib.Omega.{arith}
 use borrow.Author.Needs.{needs}
 use Rattle.kept.proofs.Steps.{marked-by}
 use Rattle.kept.proofs.changes.mark.Statement.{statement}

@@ -1,5 +1,4 @@
 -- `kept::changes::remake` meets its contract. Assumes nothing.
-use native.Mathlib.Omega.{arith}
 use borrow.Author.Needs.{needs}
 use Rattle.kept.proofs.changes.remake.Statement.{statement}
 use Rattle.kept.proofs.changes.remake.Tie as tie

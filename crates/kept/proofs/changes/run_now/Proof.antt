@@ -1,5 +1,4 @@
 -- `kept::changes::run_now` meets its contract. Assumes nothing.
-use native.Mathlib.Omega.{arith}
 use borrow.Author.Needs.{needs}
 use Rattle.kept.proofs.Steps.{running-by}
 use Rattle.kept.proofs.changes.run_now.Statement.{statement}

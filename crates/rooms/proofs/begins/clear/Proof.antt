@@ -1,5 +1,4 @@
 -- `rooms::begins::clear` meets its contract. Assumes nothing.
-use native.Mathlib.Omega.{arith}
 use borrow.Author.Needs.{needs}
 use Prim.Native.Nat.{_-_}
 use Rattle.plan.specs.Limits.{mostPoints}

@@ -41,7 +41,7 @@ use Rattle.rooms.specs.Filling.{BeginsWith}
 use Rattle.rooms.specs.declared.Started.{Started}
 use Rattle.rooms.proofs.Beginning.{few-records, all-records, fresh-kept}
 use Rattle.engine.specs.Takes.{BoardIn, NumbersWith, TakesWith, RepliesWith}
-use Rattle.engine.specs.Agreement.{Agrees, Runs, ended, went}
+use Rattle.engine.specs.Agreement.{Agrees, Runs, ended, went, answersOf}
 
 -- ---- the beginning
 
@@ -170,11 +170,6 @@ module _ (p : Plan) (l : Links) (rows into out ends : List ℕ) (b : Board) (kep
         go false e = rw (refused-is e) (refused-same r kept′ h e)
 
 -- ---- any sequence of events, taken and refused
-
--- what the plain engine answers to each of them
-pub answersOf : Plan → Board → List (List ℕ) → List Refusal
-answersOf p b [] = []
-answersOf p b (s ∷ ss) = record { number = takeOf p b s .number; place = takeOf p b s .place } ∷ answersOf p (takeOf p b s .board) ss
 
 -- THE WHOLE RUN: the same numbers and records, and the rooms agree with the plain engine's board after it
 pub runs-agree : (p : Plan) (l : Links) (rows into out ends : List ℕ) (b : Board) (kept kept′ : List ℕ) (ss : List (List ℕ)) (rs : List Refusal) → Agrees p l rows into out ends b kept

@@ -13,6 +13,7 @@ use Rattle.plan.specs.declared.Refusal.{Refusal}
 use Rattle.links.specs.Inside.{LinksOf}
 use Rattle.links.specs.declared.Links.{Links}
 use Rattle.board.specs.Boards.{sound}
+use Rattle.board.specs.Events.{takeOf}
 use Rattle.board.specs.declared.Board.{Board}
 use Rattle.keeping.specs.Keeps.{Listed, KeptOf}
 use Rattle.engine.specs.Takes.{TakesWith}
@@ -33,3 +34,8 @@ pub data Runs (l : Links) (rows into out ends : List ℕ) : List ℕ → List (L
   ended : {kept : List ℕ} → Runs l rows into out ends kept [] [] kept
   went : {kept kept′ kept″ s : List ℕ} {ss : List (List ℕ)} {r : Refusal} {rs : List Refusal} → TakesWith l rows into out ends kept s r kept′ → Runs l rows into out ends kept′ ss rs kept″
       → Runs l rows into out ends kept (s ∷ ss) (r ∷ rs) kept″
+
+-- what the plain engine answers to each of some events
+unfoldable pub answersOf : Plan → Board → List (List ℕ) → List Refusal
+answersOf p b [] = []
+answersOf p b (s ∷ ss) = record { number = takeOf p b s .number; place = takeOf p b s .place } ∷ answersOf p (takeOf p b s .board) ss

@@ -1,22 +1,29 @@
 -- The least of a table and the first point that has it, and the set of the points that have a minute, as the loops find them
 -- and as the rules say them. Assumes nothing.
 use mathlib.Core.Path.{_≡_, refl, sym, ap, _∙_}
-use mathlib.Core.Bool.{Bool, true, false, cond, _&&_}
+use mathlib.Core.Bool.{Bool, true, false, not, cond, _&&_}
 use mathlib.Core.List.{List, [], _∷_}
 use Prim.Native.Nat.{ℕ, zero, suc, _+_, _-_, _≤_, _<_, min}
 use native.Mathlib.Omega.{arith}
 use borrow.Author.Tests.{eq-eqb, ne-eqb, lt-ltb, le-ltb, le-leb, lt-leb, ltb-true, ltb-false}
-use lib.Dec.{eqb, ltb}
-use Rattle.points.specs.Sets.{withOf, from, passing, firstOr}
+use lib.Dec.{eqb, ltb, leb}
+use lib.ListN.{getD}
+use Rattle.points.specs.Sets.{member, withOf, from, passing, firstOr}
 use Rattle.plan.specs.Choice.{if_then_else_}
 use Rattle.plan.specs.Limits.{mostPoints}
 use Rattle.board.specs.Windows.{never}
 use Rattle.board.specs.Events.{noPoint}
+use Rattle.kept.specs.Rooms.{doneAt}
 use Rattle.promise.specs.Plays.{leastOf, setOf}
-use Rattle.steps.specs.Found.{lowBy, endBy, endsThen, nearer, nearestFrom, nearest, earlier, firstBy, eventAt, eventBy}
+use Rattle.steps.specs.Found.{openBy, lowBy, endBy, endsThen, nearer, nearestFrom, nearest, earlier, firstBy, eventAt, eventBy}
 use Rattle.steps.specs.declared.Least.{Least}
 
 -- ---- one point, and the event
+
+-- an open point, where `done` says whether it is done
+pub opened : (kept starts : List ℕ) (n q : ℕ) {done : Bool} → done ≡ member (getD kept doneAt 0) q
+    → ((ltb q n && (leb mostPoints (getD starts q 0) && not done)) && eqb (getD kept q 0) 0) ≡ openBy kept starts n q
+opened kept starts n q e = λ i. (ltb q n && (leb mostPoints (getD starts q 0) && not (e i))) && eqb (getD kept q 0) 0
 
 -- what is sooner takes the place of what was found, and nothing else does
 pub is-sooner : (found : Least) (t q : ℕ) → t < found .minute → record { minute = t; point = q } ≡ nearer found t q

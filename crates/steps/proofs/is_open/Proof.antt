@@ -1,4 +1,5 @@
 -- `steps::is_open` meets its contract. Assumes nothing.
+use Rattle.steps.proofs.Nearest.{opened}
 use native.Mathlib.Omega.{arith}
 use borrow.Author.Needs.{needs}
 use Rattle.steps.proofs.is_open.Statement.{statement}
@@ -20,7 +21,9 @@ has-requires : tie.Need-has-requires
 has-requires c κs = search needs
 
 returns : tie.Need-returns
-returns c = rw (c .has .ensures)
+returns c =
+    let a = c .before .before .before .before .args in
+    opened (a .kept .now) (a .starts .now) (a .n) (a .q) (c .has .ensures)
 
 pub is-open-spec : {M : Type 1} → statement M
 is-open-spec =

@@ -49,13 +49,14 @@ filled-by p rows into out ends kept few long l i o e b =
 
 -- ---- what is answered
 
-module _ (p : Plan) (x : Refusal) (ex : x ≡ checkOf p) (l : Links) (links : LinksOf (recordsOf p) l) (rows₀ into₀ out₀ ends₀ kept₀ : List ℕ) where
+module _ (p : Plan) (long : length (p .records) ≡ mostRecords) (x : Refusal) (ex : x ≡ checkOf p) (l : Links) (links : LinksOf (recordsOf p) l) (rows₀ into₀ out₀ ends₀ kept₀ : List ℕ) where
   abbrev started : Started
   started = record { number = x .number; place = x .place; links = l }
 
   pub begins-refused : (x .number ≡ 0 → ⊥) → BeginsWith p started rows₀ into₀ out₀ ends₀ kept₀ rows₀ into₀ out₀ ends₀ kept₀
   begins-refused n =
       record {
+        room = long;
         number = ap (λ (r : Refusal). r .number) ex;
         place = ap (λ (r : Refusal). r .place) ex;
         links = links;
@@ -67,6 +68,7 @@ module _ (p : Plan) (x : Refusal) (ex : x ≡ checkOf p) (l : Links) (links : Li
       → BeginsWith p started rows₀ into₀ out₀ ends₀ kept₀ rows into out ends kept
   begins-taken rows into out ends kept n f =
       record {
+        room = long;
         number = ap (λ (r : Refusal). r .number) ex;
         place = ap (λ (r : Refusal). r .place) ex;
         links = links;

@@ -4,6 +4,7 @@ use mathlib.Core.Path.{_≡_}
 use mathlib.Core.List.{List}
 use Prim.Native.Nat.{ℕ}
 use lib.ListN.{length}
+use Rattle.plan.specs.Limits.{mostRecords}
 use Rattle.plan.specs.APlan.{recordsOf}
 use Rattle.plan.specs.ReplyNumbers.{checkOf}
 use Rattle.plan.specs.declared.Plan.{Plan}
@@ -20,6 +21,7 @@ pub record Filled (rs : List Record) (rows into out ends kept : List ℕ) : Type
 
 -- the rooms before and after, and what is answered
 pub record BeginsWith (p : Plan) (s : Started) (rows₀ into₀ out₀ ends₀ kept₀ rows into out ends kept : List ℕ) : Type 0 where
+  pub room : length (p .records) ≡ mostRecords
   pub number : s .number ≡ checkOf p .number
   pub place : s .place ≡ checkOf p .place
   pub links : LinksOf (recordsOf p) (s .links)

@@ -1,5 +1,5 @@
 // The windows from what is kept: which points are open, each one's Low, and H; and the first record that holds a shut point, found among
-// the records that name that point. An inner room: it serves `engine`. What the rooms hold may be any numbers;
+// the records that name that point. An inner room: it serves `engine` and `steps`. What the rooms hold may be any numbers;
 // proofs/Answering says that of a plan's rooms the answers are the plain engine's.
 ghost use mathlib.Core.Path.{_≡_};
 ghost use Prim.Native.Nat.{_<_};

@@ -1,7 +1,7 @@
 -- The modules of proofs that belong to no one function. Other crates cite the ones that are `pub`.
 mod Marking
 pub mod Theorems
-mod Opening
+pub mod Opening
 pub mod Replying
-mod Taking
-mod Streaming
+pub mod Taking
+pub mod Streaming

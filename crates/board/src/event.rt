@@ -94,7 +94,7 @@ fn event_number(plan: Plan, board: Board, links: Links, event: &[u8]) -> Refusal
     windows::event_number(plan, links, board.clock, board.done, minutes, event)
 }
 
-pub(crate) fn answer(number: u32, place: u32, board: Board) -> Taken
+pub fn answer(number: u32, place: u32, board: Board) -> Taken
     ensures { λ t. ⌜ t ≡ taken number place board ⌝ }
 {
     Taken {

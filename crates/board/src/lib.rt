@@ -1,7 +1,7 @@
 // The board: soundness and events. Document 01, "Board, windows, replies" and "Events"; specs/ states them in that order.
 // `fresh`, `minute_of`, `is_sound`, `is_finished`, `take` and `take_all` take any plan, any board and any bytes and answer;
 // `windows_of`, `is_stuck` and `is_sound_with` serve the crates `replies` and `verdict` and assume what their contracts ask;
-// `after` serves `worst`.
+// `after` and `answer` serve `planless_board`.
 
 ghost use mathlib.Core.Path.{_≡_};
 ghost use Rattle.board.specs.Boards.{fresh};
@@ -12,6 +12,7 @@ mod standing;
 mod stream;
 
 pub use event::after;
+pub use event::answer;
 pub use links::BEFORE_CLOCK;
 pub use links::NOT_IN_TIME;
 pub use links::NOT_RUNNING;

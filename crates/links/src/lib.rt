@@ -18,6 +18,8 @@ use points::MOST;
 use points::has;
 use points::with;
 use records::one_if;
+pub use sets::all_in_time;
+pub use sets::all_running;
 pub use sets::set_number;
 
 // The reply numbers 24 to 27.

@@ -21,7 +21,7 @@ use points::has;
 use points::without;
 
 // 25: the set's points end running links.
-fn all_running(done: u32, links: Links, set: u32) -> bool
+pub fn all_running(done: u32, links: Links, set: u32) -> bool
     ensures { λ t. ⌜ t ≡ every (runsAt done links) (membersOf set) ⌝ }
 {
     let mut rest = set;
@@ -45,7 +45,7 @@ fn is_timely(from: u32, end: End, t: u32) -> bool
 }
 
 // 26: each point of the set comes within its link's x to y.
-fn all_in_time(minutes: [u32; ROOM], links: Links, t: u32, set: u32) -> bool
+pub fn all_in_time(minutes: [u32; ROOM], links: Links, t: u32, set: u32) -> bool
     ensures { λ r. ⌜ r ≡ every (timelyAt minutes links t) (membersOf set) ⌝ }
 {
     let mut rest = set;

@@ -1,16 +1,13 @@
 -- A list with room for each point, filled one after the other. Assumes nothing.
-use mathlib.Core.Path.{_≡_, sym, ap, _∙_}
+use mathlib.Core.Path.{_≡_, sym, _∙_}
 use mathlib.Core.List.{List}
-use Prim.Native.Nat.{ℕ, _+_, _-_, _<_, min}
+use Prim.Native.Nat.{ℕ, _+_, _<_}
 use native.Mathlib.Omega.{arith}
 use native.Mathlib.Decide.{ℕ-discrete}
 use lib.ListN.{length, getD, set, replicate, length-set, length-replicate}
 use lib.Seq.{getD-set-same, getD-set-other}
-use Rattle.plan.specs.Limits.{mostPoints, mostRecords}
-use Rattle.plan.specs.APlan.{blank}
-use Rattle.plan.specs.declared.Plan.{Plan}
-use Rattle.replies.specs.declared.Reply.{Reply}
-use Rattle.places.specs.Places.{ForEach, nowhere, namedBy, reasonAt}
+use Rattle.plan.specs.Limits.{mostPoints}
+use Rattle.places.specs.Places.{ForEach}
 
 module _ {A : Type 0} (f : ℕ → A) (past : A) where
   pub filled-none : (x : A) → ForEach f past 0 (replicate mostPoints x)
@@ -25,8 +22,3 @@ module _ {A : Type 0} (f : ℕ → A) (past : A) where
 
   pub filled-all : (i : ℕ) (xs : List A) → ForEach f past i xs → i ≡ mostPoints → ForEach f past mostPoints xs
   filled-all i xs w e = record { long = w .long; each = λ j h. w .each j (omega arith) }
-
--- the record that is named, where the code has it
-pub reason-is : (p : Plan) (r : Reply) (i m n : ℕ) → m ≡ namedBy (getD (r .places) i nowhere .state) → n ≡ min m (mostRecords - 1)
-    → reasonAt p r i ≡ getD (p .records) n blank
-reason-is p r i m n e f = ap (λ (k : ℕ). getD (p .records) k blank) (sym (f ∙ ap (λ (k : ℕ). min k (mostRecords - 1)) e))

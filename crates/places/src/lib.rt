@@ -1,22 +1,35 @@
-// The lines of the points in the list of a reply. What a line needs of the plan, ponds and the records that keep points shut, is taken
-// out of it once, so that the plan is not passed on for each line. An inner room of the printing program: `line_at` has a `requires`.
+// The lines of an event and of the points in a reply's list, from the rooms of the engine that keeps counts: a plan by value is large,
+// and none is passed on for an event or a line. The ponds are taken out of the plan once; the records that keep points shut are read
+// from their rows. An inner room of the printing program: `line_at` has a `requires`.
 ghost use mathlib.Core.Path.{_≡_};
 ghost use Prim.Native.Nat.{_<_, min};
 ghost use Rattle.plan.specs.Limits.{mostPoints};
-ghost use Rattle.plan.specs.APlan.{points, recordsOf, blank};
-ghost use Rattle.places.specs.Places.{hasList, ForEach, pondAt, namedBy, reasonAt, lineAt};
-use events::fewer;
+ghost use Rattle.places.specs.Places.{hasList, ForEach, pondAt, namedBy, lineAt, keptLine};
+
+mod reason;
+
+use engine::KEPT;
+use kept::CLOCK;
+use kept::DONE;
 use plan::MOST_POINTS;
-use plan::MOST_RECORDS;
 use plan::Plan;
-use plan::Record;
+use reason::reason_at;
 use replies::Outcome;
 use replies::Reply;
 use replies::State;
+use rows::SHEET;
 use text::Line;
 
 // A place for each point.
 pub const ROOM: usize = MOST_POINTS as usize;
+
+// `EVENT NUMBER CLOCK COUNT`: an event, its reply number, and the clock and the count of done points that are kept after it.
+pub fn kept_line(kept: &[u32; KEPT], event: u64, number: u32) -> Line
+    ensures { λ l. ⌜ l ≡ keptLine (now (kept .entry)) event number ⌝ }
+{
+    let count = points::count(kept[DONE]);
+    text::numbers_line(event, number, kept[CLOCK], count)
+}
 
 // Whether there is a list to print.
 pub fn has_list(outcome: Outcome) -> bool
@@ -58,37 +71,25 @@ fn named(state: State) -> u32
     }
 }
 
-// For each place of a reply the record that keeps its point shut; for one that none keeps shut, the plan's first.
-pub fn reasons_of(plan: Plan, reply: Reply) -> [Record; ROOM]
-    ensures { λ reasons. ⌜ ForEach (reasonAt plan reply) blank mostPoints reasons ⌝ }
-{
-    let first = plan.records[0];
-    let mut reasons = [first; ROOM];
-    let mut i: usize = 0;
-    while i < ROOM {
-        let place = reply.places[i];
-        let state = place.state;
-        let n = fewer(named(state) as usize, MOST_RECORDS - 1);
-        reasons[i] = plan.records[n];
-        i += 1;
-    }
-    reasons
-}
-
 // One point in the list of a reply.
-pub fn line_at(ponds: [u32; ROOM], reasons: [Record; ROOM], reply: Reply, i: u32) -> Line
+pub fn line_at(rows: &[u64; SHEET], ponds: [u32; ROOM], reply: Reply, i: u32) -> Line
     requires { ⌜ i < mostPoints ⌝ }
-    ensures { λ l. ⌜ l ≡ lineAt ponds reasons reply i ⌝ }
+    ensures { λ l. ⌜ l ≡ lineAt (now (rows .entry)) ponds reply i ⌝ }
 {
     let at = i as usize;
     let place = reply.places[at];
-    text::point_line(i, ponds[at], place, reasons[at])
+    let state = place.state;
+    let reason = reason_at(rows, named(state));
+    text::point_line(i, ponds[at], place, reason)
 }
 
-// How many points a plan has, as far as a reply has places.
-pub fn listed(plan: Plan) -> u32
-    ensures { λ n. ⌜ n ≡ min (points (recordsOf plan)) mostPoints ⌝ }
+// How many points there are, as far as a reply has places.
+pub fn listed(points: u32) -> u32
+    ensures { λ n. ⌜ n ≡ min points mostPoints ⌝ }
 {
-    let n = plan::points_of(plan);
-    if n < MOST_POINTS { n } else { MOST_POINTS }
+    if points < MOST_POINTS {
+        points
+    } else {
+        MOST_POINTS
+    }
 }

@@ -31,7 +31,7 @@ fn carry(chunk: &mut [u8], n: usize, left: usize)
 
 // How many of n bytes are kept: of a plan part all, as long as there is room for more; else those of an unfinished record, which then
 // stand at the front.
-pub(crate) fn kept(chunk: &mut [u8], n: usize, planning: bool) -> usize
+pub(crate) fn carried(chunk: &mut [u8], n: usize, planning: bool) -> usize
     requires { ⌜ n ≤ length (now chunk) ⌝ }
     ensures { λ k. ⌜ k ≤ n ⌝ }
 {

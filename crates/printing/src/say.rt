@@ -1,55 +1,60 @@
-// What is printed of a sheet: one line for an event, or, in full, the plan test's answer and the reply to every board.
+// What is printed before and after the events, and, in full, what a board is.
 use crate::out::Out;
 use crate::out::put;
 use board::Board;
+use engine::KEPT;
+use engine::LIST;
+use links::Links;
+use places::ROOM;
 use places::has_list;
 use places::line_at;
 use places::listed;
-use places::ponds_of;
-use places::reasons_of;
-use plan::Plan;
 use replies::Reply;
+use rows::SHEET;
 use stream::BEGUN;
-use stream::EVENT;
 use stream::PLAYING;
 use stream::REFUSED;
 use stream::Sheet;
 use stream::TAIL;
 
-// The list of a reply: a line for each point of the plan.
-fn list(plan: Plan, reply: Reply, lines: &mut [u8], out: Out) -> Out {
-    let count = listed(plan);
-    let ponds = ponds_of(plan);
-    let reasons = reasons_of(plan, reply);
+// The list of a reply: a line for each of so many points.
+fn list(
+    rows: &[u64; SHEET],
+    ponds: [u32; ROOM],
+    reply: Reply,
+    points: u32,
+    lines: &mut [u8],
+    out: Out,
+) -> Out {
+    let count = listed(points);
     let mut now = out;
     let mut i: u32 = 0;
     while i < count {
-        let line = line_at(ponds, reasons, reply, i);
+        let line = line_at(rows, ponds, reply, i);
         now = put(lines, now, line);
         i += 1;
     }
     now
 }
 
-// What a board is, and its list, if it has one.
-fn replied(plan: Plan, board: Board, lines: &mut [u8], out: Out) -> Out {
-    let reply = replies::reply_of(plan, board);
+// What the board is that is kept, and its list, if it has one.
+pub(crate) fn shown(
+    links: Links,
+    ponds: [u32; ROOM],
+    rows: &[u64; SHEET],
+    from: &[u32; LIST],
+    kept: &[u32; KEPT],
+    lines: &mut [u8],
+    out: Out,
+) -> Out {
+    let reply = engine::reply(links, rows, from, kept);
+    let board = engine::board_of(kept);
     let now = put(lines, out, text::board_line(board, reply));
     let outcome = reply.outcome;
     if !has_list(outcome) {
         return now;
     }
-    list(plan, reply, lines, now)
-}
-
-// An event: one line, or, in full, its reply number and the record beside it.
-fn event(full: bool, sheet: Sheet, lines: &mut [u8], out: Out) -> Out {
-    let taken = sheet.taken;
-    if full {
-        let line = text::reply_line(sheet.last, taken.number, taken.place);
-        return put(lines, out, line);
-    }
-    put(lines, out, text::event_line(sheet.last, taken))
+    list(rows, ponds, reply, links.points, lines, now)
 }
 
 // A plan that is read: in full, its test.
@@ -61,23 +66,7 @@ fn begun(full: bool, sheet: Sheet, lines: &mut [u8], out: Out) -> Out {
     put(lines, out, text::test_line(vee::test(plan)))
 }
 
-// In full, what the board is after a plan that is read and after an event. Apart from the lines before it, so that the plan test's
-// tables are not on the stack while a board is looked at.
-pub(crate) fn shown(full: bool, sheet: Sheet, lines: &mut [u8], out: Out) -> Out {
-    if !full {
-        return out;
-    }
-    let news = sheet.news;
-    if (news == BEGUN) | (news == EVENT) {
-        let plan = sheet.plan;
-        let taken = sheet.taken;
-        let board = taken.board;
-        return replied(plan, board, lines, out);
-    }
-    out
-}
-
-// What there is to print after a record, or after the last, but for the board.
+// What there is to print at the end of the plan part, and at the end of the input, but for the boards.
 pub(crate) fn say(full: bool, sheet: Sheet, lines: &mut [u8], out: Out) -> Out {
     let news = sheet.news;
     if news == REFUSED {
@@ -87,9 +76,6 @@ pub(crate) fn say(full: bool, sheet: Sheet, lines: &mut [u8], out: Out) -> Out {
     if news == BEGUN {
         return begun(full, sheet, lines, out);
     }
-    if news == EVENT {
-        return event(full, sheet, lines, out);
-    }
     if news == TAIL {
         return put(lines, out, text::tail_line());
     }
@@ -97,12 +83,10 @@ pub(crate) fn say(full: bool, sheet: Sheet, lines: &mut [u8], out: Out) -> Out {
 }
 
 // How the sheet ends, where the plan was not refused.
-pub(crate) fn end(sheet: Sheet, lines: &mut [u8], out: Out) -> Out {
+pub(crate) fn end(sheet: Sheet, board: Board, lines: &mut [u8], out: Out) -> Out {
     if sheet.stage != PLAYING {
         return out;
     }
     let plan = sheet.plan;
-    let taken = sheet.taken;
-    let board = taken.board;
     put(lines, out, text::end_line(plan, board))
 }

@@ -1,4 +1,4 @@
 -- The modules of proofs that belong to no one function. Other crates cite the ones that are `pub`.
-mod Replying
+pub mod Replying
 pub mod Numbers
 pub mod Offered

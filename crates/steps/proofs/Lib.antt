@@ -1,5 +1,4 @@
--- The modules of proofs that belong to no one function. `worst` cites `least-never` of `Nearest`.
-mod Saying
-mod Passes
+-- The modules of proofs that belong to no one function. `worst` cites `least-never` of `Nearest` and `TheEvent`.
 pub mod Nearest
-mod TheEvent
+mod Starting
+pub mod TheEvent

@@ -1,22 +1,29 @@
 -- The least of a table and the first point that has it, and the set of the points that have a minute, as the loops find them
 -- and as the rules say them. Assumes nothing.
 use mathlib.Core.Path.{_≡_, refl, sym, ap, _∙_}
-use mathlib.Core.Bool.{Bool, true, false, cond, _&&_}
+use mathlib.Core.Bool.{Bool, true, false, not, cond, _&&_}
 use mathlib.Core.List.{List, [], _∷_}
 use Prim.Native.Nat.{ℕ, zero, suc, _+_, _-_, _≤_, _<_, min}
 use native.Mathlib.Omega.{arith}
 use borrow.Author.Tests.{eq-eqb, ne-eqb, lt-ltb, le-ltb, le-leb, lt-leb, ltb-true, ltb-false}
-use lib.Dec.{eqb, ltb}
-use Rattle.points.specs.Sets.{withOf, from, passing, firstOr}
+use lib.Dec.{eqb, ltb, leb}
+use lib.ListN.{getD}
+use Rattle.points.specs.Sets.{member, withOf, from, passing, firstOr}
 use Rattle.plan.specs.Choice.{if_then_else_}
 use Rattle.plan.specs.Limits.{mostPoints}
 use Rattle.board.specs.Windows.{never}
 use Rattle.board.specs.Events.{noPoint}
+use Rattle.kept.specs.Rooms.{doneAt}
 use Rattle.promise.specs.Plays.{leastOf, setOf}
-use Rattle.steps.specs.Events.{nearer, nearestFrom, nearest, earlier}
+use Rattle.steps.specs.Found.{openBy, lowBy, endBy, endsThen, nearer, nearestFrom, nearest, earlier, firstBy, eventAt, eventBy}
 use Rattle.steps.specs.declared.Least.{Least}
 
 -- ---- one point, and the event
+
+-- an open point, where `done` says whether it is done
+pub opened : (kept starts : List ℕ) (n q : ℕ) {done : Bool} → done ≡ member (getD kept doneAt 0) q
+    → ((ltb q n && (leb mostPoints (getD starts q 0) && not done)) && eqb (getD kept q 0) 0) ≡ openBy kept starts n q
+opened kept starts n q e = λ i. (ltb q n && (leb mostPoints (getD starts q 0) && not (e i))) && eqb (getD kept q 0) 0
 
 -- what is sooner takes the place of what was found, and nothing else does
 pub is-sooner : (found : Least) (t q : ℕ) → t < found .minute → record { minute = t; point = q } ≡ nearer found t q
@@ -31,6 +38,14 @@ aim-first aim t h = rw (le-leb (aim .minute) t h) refl
 
 pub end-first : (aim : Least) (t : ℕ) → t < aim .minute → record { minute = t; point = noPoint } ≡ earlier aim t
 end-first aim t h = rw (lt-leb (aim .minute) t h) refl
+
+-- the event, from what is found
+pub event-made : (kept starts w : List ℕ) (n : ℕ) {aim end first : Least} {set : ℕ} → aim ≡ nearest (lowBy kept starts n) → end ≡ nearest (endBy kept starts w)
+    → first ≡ earlier aim (end .minute) → set ≡ setOf (endsThen kept starts w (first .minute)) (from 0 mostPoints)
+    → record { minute = first .minute; point = first .point; set = set } ≡ eventBy kept starts n w
+event-made kept starts w n {aim} {end} {first} {set} ea ee ef es =
+    let f : first ≡ firstBy kept starts n w = ef ∙ (λ i. earlier (ea i) (ee i .minute)) in
+    (λ i. record { minute = first .minute; point = first .point; set = es i }) ∙ ap (eventAt kept starts w) f
 
 -- ---- the loops
 

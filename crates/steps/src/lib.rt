@@ -1,52 +1,35 @@
-// The next event of a board at fixed durations, where the foreman takes the aim: the first open point of the least Low. On a
-// plan laid out in rows, which is lent, so that no plan is copied for an event. An inner room: it serves `worst`. An accepted
-// plan, durations in bounds and small minutes are assumed, so that every number fits.
+// The next event of a board at fixed durations, where the foreman takes the aim: the first open point of the least Low. From what is
+// kept of the board (document 02, §5) and the A of each link, so that no record is read for an event. An inner room: it serves
+// `worst`. What the rooms hold may be any numbers; proofs/TheEvent says that of a plan's rooms the event is the rules'.
 ghost use mathlib.Core.Path.{_≡_};
-ghost use mathlib.Core.Bool.{not, _&&_};
-ghost use Prim.Native.Nat.{_%_, _^_, _≤_, _<_};
-ghost use lib.Dec.{eqb, ltb};
-ghost use lib.ListN.{getD};
+ghost use Prim.Native.Nat.{_%_, _^_, _<_, _≤_};
 ghost use Rattle.plan.specs.Choice.{if_then_else_};
-ghost use Rattle.plan.specs.Limits.{mostPoints, farthest};
+ghost use Rattle.plan.specs.Limits.{mostPoints, mostRecords};
 ghost use Rattle.points.specs.Sets.{from};
-ghost use Rattle.lowhigh.specs.Inside.{lastMinute};
 ghost use Rattle.promise.specs.Plays.{setOf};
-ghost use Rattle.steps.specs.Rows.{ordinaryLow, waitLow, lowSaid, endSaid, lowsWith, endsWith};
-ghost use Rattle.steps.specs.Rows.{RowReady, PassReady, HeardOf};
-ghost use Rattle.steps.specs.Events.{nearer, nearest, standing, endsThen, earlier, StepReady, EventOf};
-use board::Board;
-use board::ROOM;
+ghost use Rattle.steps.specs.Found.{StartsIn, RoomsOf, openBy, lowBy, endBy, endsThen, nearer, nearest, earlier, eventBy};
 use events::Event;
 use events::NO_POINT;
+use kept::DONE;
+use kept::KEPT;
+use kept::MINUTES;
+use kept::place;
+use kept::sum;
+use kept_windows::low_at;
 use lowhigh::NEVER;
 use lowhigh::either;
-use lowhigh::larger;
-use lowhigh::lesser;
-use lowhigh::past;
 use lowhigh::with_if;
+use neighbours::LIST;
 use plan::LINK;
-use plan::ORDINARY;
-use plan::WAIT;
 use points::MOST;
 use points::has;
-use rows::Row;
+use rooms::list;
 use rows::SHEET;
 use rows::row_at;
 use tables::SIDE;
 
-// The kinds of record, as a row has them.
+// The kind of a link, as a row has it.
 const LINK_ROW: u64 = LINK as u64;
-
-const ORDINARY_ROW: u64 = ORDINARY as u64;
-
-const WAIT_ROW: u64 = WAIT as u64;
-
-// From which minute on each point may come, by the records, past every minute where it is shut or watched; and when the link
-// that ends at it ends, past every minute where none is running.
-pub struct Heard {
-    pub lows: [u32; ROOM],
-    pub ends: [u32; ROOM],
-}
 
 // A minute, and the first point that has it.
 pub struct Least {
@@ -54,7 +37,48 @@ pub struct Least {
     pub point: u8,
 }
 
-// ---- what one row says
+// ---- the links
+
+// The first where `so`, else the second.
+fn pick(so: bool, a: u8, b: u8) -> u8
+    ensures { λ r. ⌜ r ≡ (if so then a else b) ⌝ }
+{
+    if so { a } else { b }
+}
+
+// The A of the link that ends at each point by the first m rows, past the last place where none does: from the last row to the first.
+fn starts_of(sheet: &[u64; SHEET], m: usize) -> [u8; SIDE]
+    requires { ⌜ m ≤ mostRecords ⌝ }
+    ensures { λ t. ⌜ StartsIn (now (sheet .entry)) m t ⌝ }
+{
+    let mut starts = [MOST; SIDE];
+    let mut left = m;
+    while 0 < left {
+        left -= 1;
+        let row = row_at(sheet, left);
+        let c = place(row.over) as usize;
+        starts[c] = pick(row.kind == LINK_ROW, place(row.from), starts[c]);
+    }
+    starts
+}
+
+// The rooms of a run, from the first m rows: the three lists of them, what is kept of the fresh board, and where each link starts.
+pub fn begin_rooms(
+    sheet: &[u64; SHEET],
+    m: usize,
+    into: &mut [u32; LIST],
+    out: &mut [u32; LIST],
+    ends: &mut [u32; LIST],
+    begun: &mut [u32; KEPT],
+) -> [u8; SIDE]
+    requires { ⌜ m ≤ mostRecords ⌝ }
+    ensures { λ t. ⌜ RoomsOf (now (sheet .entry)) m (now (into .exit)) (now (out .exit)) (now (ends .exit)) (now (begun .exit)) t ⌝ }
+{
+    list(sheet, m, into, out, ends, begun);
+    starts_of(sheet, m)
+}
+
+// ---- one point
 
 fn narrow(x: u64) -> u32
     ensures { λ r. ⌜ r ≡ x % 2 ^ 32 ⌝ }
@@ -62,125 +86,47 @@ fn narrow(x: u64) -> u32
     (x % 4294967296) as u32
 }
 
+// A foreman's point not yet done that nothing holds.
+fn is_open(kept: &[u32; KEPT], starts: &[u8; SIDE], n: u32, q: u8) -> bool
+    requires { ⌜ q < mostPoints ⌝ }
+    ensures { λ r. ⌜ r ≡ openBy (now (kept .entry)) (now (starts .entry)) n q ⌝ }
+{
+    let at = q as usize;
+    let start = starts[at];
+    let holds = kept[at];
+    let done = has(kept[DONE], q);
+    (((q as u32) < n) & ((MOST <= start) & !done)) & (holds == 0)
+}
+
 // The place of a point.
-fn place(x: u64) -> u8
-    ensures { λ r. ⌜ r ≡ x % mostPoints ⌝ }
+fn place_of(a: u8) -> usize
+    ensures { λ r. ⌜ r ≡ a % mostPoints ⌝ }
 {
-    (x % 32) as u8
+    a as usize % SIDE
 }
 
-fn pick(so: bool, a: u64, b: u64) -> u64
-    ensures { λ r. ⌜ r ≡ (if so then a else b) ⌝ }
+// The Low of an open point, past every minute where it is not open.
+fn low_by(kept: &[u32; KEPT], starts: &[u8; SIDE], n: u32, q: u8) -> u32
+    requires { ⌜ q < mostPoints ⌝ }
+    ensures { λ r. ⌜ r ≡ lowBy (now (kept .entry)) (now (starts .entry)) n q ⌝ }
 {
-    if so { a } else { b }
+    either(is_open(kept, starts, n, q), low_at(kept, q), NEVER)
 }
 
-// An ordinary row, to a point that may have come at y.
-fn ordinary_low(up: u32, down: u32, came: bool, y: u32) -> u32
-    requires { ⌜ (down ≤ farthest) × (y ≤ lastMinute) ⌝ }
-    ensures { λ r. ⌜ r ≡ ordinaryLow up down came y ⌝ }
+// When the link that ends at a point ends, past every minute where none is running.
+fn end_by(kept: &[u32; KEPT], starts: &[u8; SIDE], durations: &[u64; SIDE], c: u8) -> u32
+    requires { ⌜ c < mostPoints ⌝ }
+    ensures { λ r. ⌜ r ≡ endBy (now (kept .entry)) (now (starts .entry)) (now (durations .entry)) c ⌝ }
 {
-    if came {
-        past(y + down, up)
-    } else if 0 < down {
-        NEVER
-    } else {
-        0
-    }
+    let at = c as usize;
+    let a = starts[at];
+    let done = kept[DONE];
+    let runs = has(done, a) & !has(done, c);
+    let start = kept[MINUTES + place_of(a)];
+    either(runs, sum(start, narrow(durations[at])), NEVER)
 }
 
-// A wait, on a link that may have started at a and ended.
-fn wait_low(long: u32, started: bool, a: u32, ended: bool) -> u32
-    requires { ⌜ (long ≤ farthest) × (a ≤ lastMinute) ⌝ }
-    ensures { λ r. ⌜ r ≡ waitLow long started a ended ⌝ }
-{
-    if !started {
-        NEVER
-    } else if ended {
-        0
-    } else {
-        a + long
-    }
-}
-
-// From which minute on a row lets its point come; a link's never.
-fn low_of(row: Row, came: bool, t: u32, ended: bool) -> u32
-    requires { ⌜ RowReady row × (t ≤ lastMinute) ⌝ }
-    ensures { λ r. ⌜ r ≡ lowSaid row came t ended ⌝ }
-{
-    if row.kind == LINK_ROW {
-        return NEVER;
-    }
-    if row.kind == ORDINARY_ROW {
-        return ordinary_low(narrow(row.first), narrow(row.second), came, t);
-    }
-    if row.kind == WAIT_ROW {
-        return wait_low(narrow(row.first), came, t, ended);
-    }
-    0
-}
-
-// When a link ends that lasts so long; past every minute where it is not running.
-fn end_of(link: bool, lasts: u32, started: bool, a: u32, ended: bool) -> u32
-    requires { ⌜ (lasts ≤ farthest) × (a ≤ lastMinute) ⌝ }
-    ensures { λ r. ⌜ r ≡ endSaid link lasts started a ended ⌝ }
-{
-    either(link & (started & !ended), a + lasts, NEVER)
-}
-
-// ---- the pass over the rows
-
-// One row more.
-fn hear(
-    row: Row,
-    durations: &[u64; SIDE],
-    done: u32,
-    minutes: &[u32; ROOM],
-    lows: &mut [u32; ROOM],
-    ends: &mut [u32; ROOM],
-)
-    requires { ⌜ RowReady row × PassReady (now durations) (now minutes) (now lows) (now ends) ⌝ }
-    ensures lows { λ _. ⌜ now (lows .exit) ≡ lowsWith row done (now (minutes .entry)) (now (lows .entry)) ⌝ }
-    ensures ends { λ _. ⌜ now (ends .exit) ≡ endsWith row (now (durations .entry)) done (now (minutes .entry)) (now (ends .entry)) ⌝ }
-{
-    let link = row.kind == LINK_ROW;
-    let at = place(pick(link, row.over, row.from)) as usize;
-    let from = place(pick(link, row.from, row.to));
-    let over = place(row.over);
-    let came = has(done, from);
-    let ended = has(done, over);
-    let t = minutes[from as usize];
-    let to = over as usize;
-    let lasts = narrow(durations[to]);
-    lows[at] = larger(lows[at], low_of(row, came, t, ended));
-    ends[to] = lesser(ends[to], end_of(link, lasts, came, t, ended));
-}
-
-// The pass over the first `m` rows.
-fn hear_all(
-    sheet: &[u64; SHEET],
-    m: usize,
-    durations: &[u64; SIDE],
-    clock: u32,
-    done: u32,
-    minutes: &[u32; ROOM],
-) -> Heard
-    requires { ⌜ StepReady (now sheet) m (now durations) (now minutes) ⌝ }
-    ensures { λ h. ⌜ HeardOf (now (sheet .entry)) m clock done (now (minutes .entry)) (now (durations .entry)) h ⌝ }
-{
-    let mut lows = [clock; ROOM];
-    let mut ends = [NEVER; ROOM];
-    for q in 0..m {
-        let row = row_at(sheet, q);
-        hear(row, durations, done, minutes, &mut lows, &mut ends);
-    }
-    Heard {
-        lows: lows,
-        ends: ends,
-    }
-}
-
-// ---- the points
+// ---- all points
 
 // What is found so far, or the point q at t where that is sooner.
 fn nearer(found: Least, t: u32, q: u8) -> Least
@@ -196,9 +142,9 @@ fn nearer(found: Least, t: u32, q: u8) -> Least
     }
 }
 
-// The least of a table over the points of n that are not done, and the first point that has it.
-fn soonest(n: u32, done: u32, table: &[u32; ROOM]) -> Least
-    ensures { λ r. ⌜ r ≡ nearest (standing n done (now (table .entry))) ⌝ }
+// The least Low of the open points, and the first point that has it.
+fn aim_of(kept: &[u32; KEPT], starts: &[u8; SIDE], n: u32) -> Least
+    ensures { λ r. ⌜ r ≡ nearest (lowBy (now (kept .entry)) (now (starts .entry)) n) ⌝ }
 {
     let mut found = Least {
         minute: NEVER,
@@ -206,23 +152,37 @@ fn soonest(n: u32, done: u32, table: &[u32; ROOM]) -> Least
     };
     let mut q: u8 = 0;
     while q < MOST {
-        let t = table[q as usize];
-        let stands = ((q as u32) < n) & !has(done, q);
-        found = nearer(found, either(stands, t, NEVER), q);
+        found = nearer(found, low_by(kept, starts, n, q), q);
         q += 1;
     }
     found
 }
 
-// The points of a table that have the minute t.
-fn ending(ends: &[u32; ROOM], t: u32) -> u32
-    ensures { λ s. ⌜ s ≡ setOf (endsThen (now (ends .entry)) t) (from 0 mostPoints) ⌝ }
+// When the first running link ends, and the first point that ends one then.
+fn end_of(kept: &[u32; KEPT], starts: &[u8; SIDE], durations: &[u64; SIDE]) -> Least
+    ensures { λ r. ⌜ r ≡ nearest (endBy (now (kept .entry)) (now (starts .entry)) (now (durations .entry))) ⌝ }
+{
+    let mut found = Least {
+        minute: NEVER,
+        point: NO_POINT,
+    };
+    let mut c: u8 = 0;
+    while c < MOST {
+        found = nearer(found, end_by(kept, starts, durations, c), c);
+        c += 1;
+    }
+    found
+}
+
+// The points that end a running link at the minute t.
+fn ending(kept: &[u32; KEPT], starts: &[u8; SIDE], durations: &[u64; SIDE], t: u32) -> u32
+    ensures { λ s. ⌜ s ≡ setOf (endsThen (now (kept .entry)) (now (starts .entry)) (now (durations .entry)) t) (from 0 mostPoints) ⌝ }
 {
     let mut set: u32 = 0;
     let mut left: u8 = MOST;
     while 0 < left {
         left -= 1;
-        let end = ends[left as usize];
+        let end = end_by(kept, starts, durations, left);
         set = with_if((end == t) & (t < NEVER), set, left);
     }
     set
@@ -242,25 +202,14 @@ fn first_of(aim: Least, end: Least) -> Least
     }
 }
 
-// The event of a board.
-pub fn next_event(
-    sheet: &[u64; SHEET],
-    m: usize,
-    n: u32,
-    durations: &[u64; SIDE],
-    board: Board,
-) -> Event
-    requires { ⌜ StepReady (now sheet) m (now durations) (board .minutes) ⌝ }
-    ensures { λ e. ⌜ EventOf (now (sheet .entry)) m n (now (durations .entry)) board e ⌝ }
+// The event of a board, of a plan of n points.
+pub fn next_event(kept: &[u32; KEPT], starts: &[u8; SIDE], n: u32, durations: &[u64; SIDE]) -> Event
+    ensures { λ e. ⌜ e ≡ eventBy (now (kept .entry)) (now (starts .entry)) n (now (durations .entry)) ⌝ }
 {
-    let minutes = board.minutes;
-    let heard = hear_all(sheet, m, durations, board.clock, board.done, &minutes);
-    let lows = heard.lows;
-    let ends = heard.ends;
-    let first = first_of(soonest(n, board.done, &lows), soonest(n, board.done, &ends));
+    let first = first_of(aim_of(kept, starts, n), end_of(kept, starts, durations));
     Event {
         minute: first.minute,
         point: first.point,
-        set: ending(&ends, first.minute),
+        set: ending(kept, starts, durations, first.minute),
     }
 }

@@ -61,5 +61,4 @@ at-once s front bytes room h f ok good =
       events = let c = counted-along front es s h f in rw (length-events (manyIn bytes room) bytes) at c;
       plan = plan-along front es s h;
       told = rw (eq-eqb _ 0 ok, good) (ap (λ (xs : List ℕ). xs ++ drop (saidNumbers * manyIn bytes room) room) (said-along front es s h));
-      line = λ k t rest. refl;
     }

@@ -1,14 +1,9 @@
--- Some events at once: the sheet after them, and the line of each from what is said of it; and what it is for that to be the same
--- as one event after the other. Assumes nothing.
+-- Some events at once: the sheet after them, and what it is for that to be the same as one event after the other. Assumes nothing.
 use mathlib.Core.Path.{_≡_}
 use mathlib.Core.List.{List, [], _∷_, _++_}
 use Prim.Native.Nat.{ℕ, _+_, _*_, _%_, _^_}
-use lib.ListN.{drop, getD}
-use Rattle.points.specs.Sets.{countOf}
+use lib.ListN.{drop}
 use Rattle.board.specs.Streams.{eventsIn, manyIn, said, saidNumbers, takeAllOf, saidAllOf}
-use Rattle.board.specs.declared.Taken.{Taken}
-use Rattle.text.specs.Lines.{numbersLine, eventLine}
-use Rattle.lines.specs.declared.Line.{Line}
 use Rattle.stream.specs.Sheets.{nothing, nextOf}
 use Rattle.stream.specs.declared.sheet.Sheet.{Sheet}
 
@@ -17,10 +12,6 @@ use Rattle.stream.specs.declared.sheet.Sheet.{Sheet}
 abbrev pub allPlayedOf : Sheet → List ℕ → List ℕ → Sheet
 allPlayedOf s bytes room =
     record { stage = s .stage; news = nothing; length = s .length; events = (s .events + manyIn bytes room) % 2 ^ 64; last = s .last; plan = s .plan; taken = takeAllOf (s .plan) (s .taken .board) bytes room }
-
--- the line of event k, of which the room says from `at` on its number, a record, the clock and the done set
-abbrev pub saidLine : ℕ → List ℕ → ℕ → Line
-saidLine k room at = numbersLine k (getD room at 0) (getD room (at + 2) 0) (countOf (getD room (at + 3) 0))
 
 -- the sheet after some events, one record more at a time; of the front of the input nothing counts by then
 unfoldable pub oneByOne : Sheet → List ℕ → List (List ℕ) → Sheet
@@ -32,11 +23,10 @@ unfoldable pub saidAlong : Sheet → List ℕ → List (List ℕ) → List ℕ
 saidAlong s front [] = []
 saidAlong s front (e ∷ es) = said (nextOf s e front .taken) ++ saidAlong (nextOf s e front) front es
 
--- taken at once, the events come to the same board, number and plan, and of each the same is said, so that its line is the same
+-- taken at once, the events come to the same board, number and plan, and of each the same is said
 pub record AtOnce (s : Sheet) (front bytes room : List ℕ) : Type 0 where
   pub board : allPlayedOf s bytes room .taken .board ≡ oneByOne s front (eventsIn (manyIn bytes room) bytes) .taken .board
   pub events : allPlayedOf s bytes room .events ≡ oneByOne s front (eventsIn (manyIn bytes room) bytes) .events
   pub plan : s .plan ≡ oneByOne s front (eventsIn (manyIn bytes room) bytes) .plan
   pub told : saidAllOf (s .plan) (s .taken .board) bytes room
       ≡ saidAlong s front (eventsIn (manyIn bytes room) bytes) ++ drop (saidNumbers * manyIn bytes room) room
-  pub line : (k : ℕ) (t : Taken) (rest : List ℕ) → saidLine k (said t ++ rest) 0 ≡ eventLine k t

@@ -1,17 +1,13 @@
-// Some events at once, and the lines of them: where one line is all that is printed of an event, the plan is passed on and tested
-// once for many of them.
+// Some events at once: where only the board after them counts, the plan is passed on and tested once for many of them.
 ghost use mathlib.Core.Path.{_≡_};
-ghost use Prim.Native.Nat.{_+_, _≤_};
-ghost use lib.ListN.{length};
-ghost use Rattle.board.specs.Streams.{saidNumbers, saidAllOf};
-ghost use Rattle.stream.specs.Many.{allPlayedOf, saidLine};
+ghost use Rattle.board.specs.Streams.{saidAllOf};
+ghost use Rattle.stream.specs.Many.{allPlayedOf};
 use crate::sheet::NOTHING;
 use crate::sheet::Sheet;
 use board::SAID;
 use events::fewer;
 use plan::RECORD_BYTES;
 use std::num::wrapping_add_u64;
-use text::Line;
 
 impl Sheet {
     // The whole events of some bytes one after the other, as far as there is room to say something of each.
@@ -34,13 +30,4 @@ impl Sheet {
             taken: reply,
         }
     }
-}
-
-// The line of an event, of which the room says from `at` on what there is to print.
-pub fn said_line(room: &[u32], at: usize, event: u64) -> Line
-    requires { ⌜ at + saidNumbers ≤ length (now room) ⌝ }
-    ensures { λ l. ⌜ l ≡ saidLine event (now (room .entry)) at ⌝ }
-{
-    let count = points::count(room[at + 3]);
-    text::numbers_line(event, room[at], room[at + 2], count)
 }

@@ -25,7 +25,7 @@ pub const REFUSED: u8 = 1;
 
 pub const BEGUN: u8 = 2;
 
-pub const EVENT: u8 = 3;
+const EVENT: u8 = 3;
 
 pub const TAIL: u8 = 4;
 

@@ -1,5 +1,5 @@
--- The modules of proofs that belong to no one function.
+-- The modules of proofs that belong to no one function. Other crates cite the one that is `pub`.
 mod Removing
-mod Opening
+pub mod Opening
 mod Above
 mod Numbering

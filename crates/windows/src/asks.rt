@@ -53,7 +53,7 @@ fn is_above(high: u32, low: u32) -> bool
 }
 
 // Every open Low is above H.
-fn all_above(w: Windows) -> bool
+pub fn all_above(w: Windows) -> bool
     ensures { λ t. ⌜ t ≡ every (λ q. ltb (w .high) (getD (w .lows) q 0 + farthest)) (membersOf (w .opens)) ⌝ }
 {
     let lows = w.lows;
@@ -90,7 +90,7 @@ pub fn latest_of(clock: u32, high: u32) -> u32
 }
 
 // 28 to 30 in order, or else 0.
-fn point_number(w: Windows, latest: u32, e: Event) -> u32
+pub fn point_number(w: Windows, latest: u32, e: Event) -> u32
     ensures { λ n. ⌜ n ≡ pointFrom w latest (e .minute) (e .point) ⌝ }
 {
     let no_point = e.point == NO_POINT;
@@ -116,7 +116,7 @@ fn is_foremans(links: Links, done: u32, p: u8) -> bool
 
 // The record beside the number n of an event for the point p: beside 28 the one that keeps p shut, where p is a foreman's point
 // not yet done; else none.
-fn record_beside(links: Links, done: u32, w: Windows, p: u8, n: u32) -> u32
+pub fn record_beside(links: Links, done: u32, w: Windows, p: u8, n: u32) -> u32
     ensures { λ i. ⌜ i ≡ besideFrom links done w p n ⌝ }
 {
     let holders = w.holders;
@@ -125,7 +125,7 @@ fn record_beside(links: Links, done: u32, w: Windows, p: u8, n: u32) -> u32
 }
 
 // A number and the record beside it.
-fn refusal(number: u32, place: u32) -> Refusal
+pub fn refusal(number: u32, place: u32) -> Refusal
     ensures { λ r. ⌜ r ≡ refused number place ⌝ }
 {
     Refusal {

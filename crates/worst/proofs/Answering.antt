@@ -22,7 +22,7 @@ use Rattle.vee.specs.declared.Answer.the-variants as answer
 use Rattle.vee.proofs.Testing.{accepted-plan}
 use Rattle.vee.proofs.Yes.{yes-exactly}
 use Rattle.vee.proofs.Executable.{test-is}
-use Rattle.steps.specs.Rows.{SheetOf}
+use Rattle.steps.specs.Events.{SheetOf}
 use Rattle.worst.specs.WorstMinute.{isYes, refusedOf, worstOf, worstOfAll, dayEvents, bytesOfAll, day, dayOf, dayWritten}
 use Rattle.worst.specs.Coded.{refusedBy, manyBy, dayFor, writtenFor, DayAsks, DayAs, ChooseAsks, ChosenAs, AllReady, FoundOf}
 use Rattle.worst.specs.ProjectionRuns.{eventsOfRun}

@@ -22,11 +22,12 @@ use Rattle.vee.proofs.Testing.{accepted-plan, links-are, may-count, may-walk}
 use Rattle.worst.specs.WorstMinute.{projectionsOf, finishing, Finish, worse, worstFrom, worstOfAll}
 use Rattle.worst.specs.Inside.{chosen}
 use Rattle.worst.specs.Promises.{projectionAt}
-use Rattle.worst.specs.Coded.{RunReady, RunAsks, RanOf, ChooseAsks, ChosenAs, AllReady, WorstAsks, worseFound, FoundOf}
+use Rattle.worst.specs.Coded.{lent, RunReady, RunAsks, RanOf, ChooseAsks, ChosenAs, AllReady, WorstAsks, worseFound, FoundOf}
 use Rattle.worst.specs.declared.run.Ran.{Ran}
 use Rattle.worst.specs.declared.projections.Found.{Found}
+use Rattle.steps.specs.Found.{RoomsOf}
 use Rattle.choices.proofs.Decoding.{projection-chosen}
-use Rattle.worst.proofs.Going.{few-of-run}
+use Rattle.worst.proofs.Going.{few-of-run, rooms-ready}
 use Rattle.worst.proofs.Stands.{projection-in-bounds}
 
 -- a later minute takes the place of what was found, and nothing else does
@@ -114,25 +115,28 @@ module _ {s : List ℕ} {m n k total : ℕ} {found : Found} {i : ℕ} (t : Searc
     pub search-asks : ChooseAsks s (n + k) k total i
     search-asks = choose-asks (asks .plan) (asks .ready) i h
 
-    pub search-runs : {w : List ℕ} → ChosenAs s (n + k) k i w → {log : List ℕ} → recordBytes * mostPoints ≤ length log → RunAsks s m n w log
-    search-runs c room =
+    pub search-runs : {into out ends begun starts : List ℕ} → RoomsOf s m into out ends begun starts → {w : List ℕ} → ChosenAs s (n + k) k i w → {log : List ℕ}
+        → recordBytes * mostPoints ≤ length log → RunAsks (lent s into out ends begun starts) n w log
+    search-runs o c room =
         record {
           plan = asks .plan;
-          ready = run-ready (asks .plan) (asks .ready) h c;
+          ready = rooms-ready o (asks .plan) (run-ready (asks .plan) (asks .ready) h c);
           room = omega (arith, few-of-run (asks .plan) (run-ready (asks .plan) (asks .ready) h c));
         }
 
-  on-with : (p : Plan) → AllReady p s m n k total → i < total → {w log log′ : List ℕ} → ChosenAs s (n + k) k i w → {r : Ran} → RanOf s m n w log log′ r
+  on-with : (p : Plan) → AllReady p s m n k total → i < total → {into out ends begun starts : List ℕ} → RoomsOf s m into out ends begun starts
+      → {w log log′ : List ℕ} → ChosenAs s (n + k) k i w → {r : Ran} → RanOf (lent s into out ends begun starts) n w log log′ r
       → {found′ : Found} → found′ ≡ worseFound found (r .minute) i → worstFrom p (finish found′) (i + 1) (drop (i + 1) (projectionsOf p)) ≡ worstOfAll p
   unfolding worstFrom
-  on-with p a h {w} c {r} o {found′} e =
-      let f : r .minute ≡ finishing p (projectionAt p i) = o .minute p (run-ready p a h c) ∙ ap (finishing p) (chosen-is p a h c) in
+  on-with p a h rooms {w} c {r} o {found′} e =
+      let f : r .minute ≡ finishing p (projectionAt p i) = o .minute p (rooms-ready rooms p (run-ready p a h c)) ∙ ap (finishing p) (chosen-is p a h c) in
       let g : finish found′ ≡ worse (finish found) (finishing p (projectionAt p i)) i = ap finish e ∙ worse-finish found (r .minute) i ∙ ap (λ (t : ℕ). worse (finish found) t i) f in
       rw (add-one i) (ap (λ (f : Finish). worstFrom p f (suc i) (drop (suc i) (projectionsOf p))) g ∙ (rw (rest-here p a i h) at (t .of p a)))
 
-  pub searching-turn : i < total → {w log log′ : List ℕ} → ChosenAs s (n + k) k i w → {r : Ran} → RanOf s m n w log log′ r → {found′ : Found}
+  pub searching-turn : i < total → {into out ends begun starts : List ℕ} → RoomsOf s m into out ends begun starts → {w log log′ : List ℕ} → ChosenAs s (n + k) k i w → {r : Ran}
+      → RanOf (lent s into out ends begun starts) n w log log′ r → {found′ : Found}
       → found′ ≡ worseFound found (r .minute) i → Searching s m n k total found′ (i + 1)
-  searching-turn h {w} c {r} o {found′} e = record { within = omega arith; of = λ p a. on-with p a h c o e }
+  searching-turn h rooms {w} c {r} o {found′} e = record { within = omega arith; of = λ p a. on-with p a h rooms c o e }
 
   all : (p : Plan) → AllReady p s m n k total → total ≤ i → finish found ≡ worstOfAll p
   unfolding worstFrom

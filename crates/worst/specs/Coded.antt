@@ -20,7 +20,8 @@ use Rattle.vee.specs.declared.Answer.{Answer}
 use Rattle.vee.specs.declared.Answer.the-variants as answer
 use Rattle.promise.specs.Nets.{PassesPlan}
 use Rattle.promise.specs.Plays as plays
-use Rattle.steps.specs.Rows.{SheetOf}
+use Rattle.steps.specs.Events.{SheetOf}
+use Rattle.steps.specs.Found.{RoomsOf}
 use Rattle.worst.specs.ProjectionRuns.{eventsOfRun}
 use Rattle.worst.specs.WorstMinute.{finishing, bytesOfAll, worstOfAll, day}
 pub use Rattle.choices.specs.Choices.{ChooseAsks, ChosenAs}
@@ -58,17 +59,35 @@ pub record RunReady (p : Plan) (s : List ℕ) (m n : ℕ) (w : List ℕ) : Type 
   pub within : InBounds (netOf (recordsOf p)) (by w)
   pub lasts : (C : ℕ) → by w C ≤ farthest
 
+-- the rooms that a run is lent: the plan's rows, the three lists of them, what is kept of the fresh board, and where each link starts
+pub record Lent : Type 0 where
+  pub sheet : List ℕ
+  pub into : List ℕ
+  pub out : List ℕ
+  pub ends : List ℕ
+  pub begun : List ℕ
+  pub starts : List ℕ
+
+abbrev pub lent : List ℕ → List ℕ → List ℕ → List ℕ → List ℕ → List ℕ → Lent
+lent s into out ends begun starts = record { sheet = s; into = into; out = out; ends = ends; begun = begun; starts = starts }
+
+-- they are those of the plan p
+pub record RoomsReady (p : Plan) (l : Lent) (n : ℕ) (w : List ℕ) : Type 0 where
+  pub m : ℕ
+  pub ready : RunReady p (l .sheet) m n w
+  pub rooms : RoomsOf (l .sheet) m (l .into) (l .out) (l .ends) (l .begun) (l .starts)
+
 -- there is such a plan, and the log has room for the events
-pub record RunAsks (s : List ℕ) (m n : ℕ) (w log : List ℕ) : Type 0 where
+pub record RunAsks (l : Lent) (n : ℕ) (w log : List ℕ) : Type 0 where
   pub plan : Plan
-  pub ready : RunReady plan s m n w
+  pub ready : RoomsReady plan l n w
   pub room : recordBytes * length (eventsOfRun plan w) ≤ length log
 
 -- what is answered of each such plan: the minute and the number of events of the run of w, and the events at the log's front
-pub record RanOf (s : List ℕ) (m n : ℕ) (w log log′ : List ℕ) (r : Ran) : Type 0 where
-  pub minute : (p : Plan) → RunReady p s m n w → r .minute ≡ finishing p w
-  pub events : (p : Plan) → RunReady p s m n w → r .events ≡ length (eventsOfRun p w)
-  pub written : (p : Plan) → RunReady p s m n w
+pub record RanOf (l : Lent) (n : ℕ) (w log log′ : List ℕ) (r : Ran) : Type 0 where
+  pub minute : (p : Plan) → RoomsReady p l n w → r .minute ≡ finishing p w
+  pub events : (p : Plan) → RoomsReady p l n w → r .events ≡ length (eventsOfRun p w)
+  pub written : (p : Plan) → RoomsReady p l n w
       → log′ ≡ bytesOfAll (eventsOfRun p w) ++ drop (recordBytes * length (eventsOfRun p w)) log
 
 -- ---- a day

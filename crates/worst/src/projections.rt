@@ -4,7 +4,10 @@ ghost use Rattle.worst.specs.Coded.{WorstAsks, worseFound, FoundOf};
 use crate::run::LOG;
 use crate::run::run;
 use choices::chosen;
+use kept::KEPT;
+use neighbours::LIST;
 use rows::SHEET;
+use steps::begin_rooms;
 
 // A finishing minute, and the projection that has it.
 pub(crate) struct Found {
@@ -31,6 +34,11 @@ pub(crate) fn worst_run(sheet: &[u64; SHEET], m: usize, n: u32, links: usize, ma
     requires { ⌜ WorstAsks (now sheet) m n links many ⌝ }
     ensures { λ r. ⌜ FoundOf (now (sheet .entry)) m n links many r ⌝ }
 {
+    let mut into = [0u32; LIST];
+    let mut out = [0u32; LIST];
+    let mut ends = [0u32; LIST];
+    let mut begun = [0u32; KEPT];
+    let starts = begin_rooms(sheet, m, &mut into, &mut out, &mut ends, &mut begun);
     let mut log = [0u8; LOG];
     let mut found = Found {
         minute: 0,
@@ -39,7 +47,7 @@ pub(crate) fn worst_run(sheet: &[u64; SHEET], m: usize, n: u32, links: usize, ma
     let past = n as usize + links;
     for i in 0..many {
         let w = chosen(sheet, past, links, many, i);
-        let ran = run(sheet, m, n, &w, &mut log);
+        let ran = run(sheet, &into, &out, &ends, begun, &starts, n, &w, &mut log);
         found = worse(found, ran.minute, i);
     }
     found

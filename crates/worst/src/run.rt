@@ -1,19 +1,22 @@
-// The run of a projection, on a plan laid out in rows: its finishing minute, how many events it has, and the events' bytes in
-// a lent log; and the same as a day in a lent buffer. A plan that passes is assumed, so that the run finishes.
+// The run of a projection, on a plan laid out in rows, from what is kept of its board: its finishing minute, how many events it has,
+// and the events' bytes in a lent log; and the same as a day in a lent buffer. A plan that passes is assumed, so that the run finishes.
 ghost use mathlib.Core.Path.{_≡_};
 ghost use Rattle.promise.specs.Plays.{eventBytes};
-ghost use Rattle.worst.specs.Coded.{asPlayed, RunAsks, RanOf, DayAsks, DayAs};
+ghost use Rattle.worst.specs.Coded.{asPlayed, lent, RunAsks, RanOf, DayAsks, DayAs};
 ghost use Rattle.worst.specs.WorstMinute.{day};
 use crate::Day;
-use board::after;
-use board::fresh;
 use events::Event;
 use history::first_points;
+use kept::DONE;
+use kept::KEPT;
+use kept::do_event;
+use neighbours::LIST;
 use plan::ACCEPTED;
 use plan::NO_ROOM;
 use records::RECORD_BYTES;
 use records::put;
 use rows::SHEET;
+use steps::begin_rooms;
 use steps::next_event;
 use tables::SIDE;
 
@@ -54,23 +57,27 @@ fn event_bytes(e: Event) -> [u8; RECORD_BYTES]
 
 pub(crate) fn run(
     sheet: &[u64; SHEET],
-    m: usize,
+    into: &[u32; LIST],
+    out: &[u32; LIST],
+    ends: &[u32; LIST],
+    begun: [u32; KEPT],
+    starts: &[u8; SIDE],
     n: u32,
     durations: &[u64; SIDE],
     log: &mut [u8],
 ) -> Ran
-    requires { ⌜ RunAsks (now sheet) m n (now durations) (now log) ⌝ }
-    ensures { λ r. ⌜ RanOf (now (sheet .entry)) m n (now (durations .entry)) (now (log .entry)) (now (log .exit)) r ⌝ }
+    requires { ⌜ RunAsks (lent (now sheet) (now into) (now out) (now ends) begun (now starts)) n (now durations) (now log) ⌝ }
+    ensures { λ r. ⌜ RanOf (lent (now (sheet .entry)) (now (into .entry)) (now (out .entry)) (now (ends .entry)) begun (now (starts .entry))) n (now (durations .entry)) (now (log .entry)) (now (log .exit)) r ⌝ }
 {
     let all = first_points(n);
-    let mut board = fresh();
+    let mut kept = begun;
     let mut minute: u32 = 0;
     let mut k: usize = 0;
-    while board.done != all {
-        let e = next_event(sheet, m, n, durations, board);
+    while kept[DONE] != all {
+        let e = next_event(&kept, starts, n, durations);
         minute = e.minute;
         put(log, RECORD_BYTES * k, event_bytes(e));
-        board = after(board, e, k as u32 + 1);
+        do_event(sheet, into, out, ends, &mut kept, e);
         k += 1;
     }
     Ran {
@@ -95,16 +102,41 @@ pub(crate) fn write_day(
     m: usize,
     n: u32,
     durations: &[u64; SIDE],
-    out: &mut [u8],
+    buffer: &mut [u8],
 ) -> Day
     requires { ⌜ DayAsks (now sheet) m n (now durations) ⌝ }
-    ensures { λ d. ⌜ DayAs (now (sheet .entry)) m n (now (durations .entry)) (now (out .entry)) (now (out .exit)) d ⌝ }
+    ensures { λ d. ⌜ DayAs (now (sheet .entry)) m n (now (durations .entry)) (now (buffer .entry)) (now (buffer .exit)) d ⌝ }
 {
+    let mut into = [0u32; LIST];
+    let mut out = [0u32; LIST];
+    let mut ends = [0u32; LIST];
+    let mut begun = [0u32; KEPT];
+    let starts = begin_rooms(sheet, m, &mut into, &mut out, &mut ends, &mut begun);
     let mut log = [0u8; LOG];
-    let counted = run(sheet, m, n, durations, &mut log);
-    if out.len() < RECORD_BYTES * counted.events as usize {
+    let counted = run(
+        sheet,
+        &into,
+        &out,
+        &ends,
+        begun,
+        &starts,
+        n,
+        durations,
+        &mut log,
+    );
+    if buffer.len() < RECORD_BYTES * counted.events as usize {
         return day_as(NO_ROOM, 0, 0);
     }
-    let written = run(sheet, m, n, durations, out);
+    let written = run(
+        sheet,
+        &into,
+        &out,
+        &ends,
+        begun,
+        &starts,
+        n,
+        durations,
+        buffer,
+    );
     day_as(ACCEPTED, 0, written.events)
 }

@@ -4,7 +4,7 @@ use Prim.Native.Nat.{ℕ, _-_, _≤_}
 use Rattle.points.specs.Sets.{from}
 use Rattle.plan.specs.Limits.{mostPoints}
 use Rattle.promise.specs.Plays.{setOf}
-use Rattle.steps.specs.Events.{endsThen}
+use Rattle.steps.specs.Found.{endsThen}
 use Rattle.steps.proofs.Nearest.{set-turn, set-end}
 use borrow.Author.Needs.{needs}
 use native.Mathlib.Omega.{arith}
@@ -12,10 +12,10 @@ use Rattle.steps.proofs.ending.Statement.{statement}
 use Rattle.steps.proofs.ending.Tie as tie
 
 abbrev Inv-loop : tie.InvT-loop
-Inv-loop ends t set₀ left₀ set left = (left ≤ mostPoints) × (set ≡ setOf (endsThen ends t) (from left (mostPoints - left)))
+Inv-loop kept starts durations t set₀ left₀ set left = (left ≤ mostPoints) × (set ≡ setOf (endsThen kept starts durations t) (from left (mostPoints - left)))
 
 abbrev μ-loop : tie.MeasureT-loop
-μ-loop ends t set₀ left₀ set left = left
+μ-loop kept starts durations t set₀ left₀ set left = left
 
 loop-holds : tie.Need-loop-holds Inv-loop μ-loop
 unfolding setOf from
@@ -24,14 +24,8 @@ loop-holds c = (omega arith, refl)
 sub-left : tie.Need-sub-left Inv-loop μ-loop
 sub-left c = search needs
 
-cast-end : tie.Need-cast-end Inv-loop μ-loop
-cast-end c = search needs
-
-mul-end : tie.Need-mul-end Inv-loop μ-loop
-mul-end c = search needs
-
-element-copy-out-end : tie.Need-element-copy-out-end Inv-loop μ-loop
-element-copy-out-end c = search needs
+end-by-requires : tie.Need-end-by-requires Inv-loop μ-loop
+end-by-requires c κs = omega (arith, c .before .loop .inv .0)
 
 with-if-requires : tie.Need-with-if-requires Inv-loop μ-loop
 with-if-requires c κs = search needs
@@ -40,7 +34,7 @@ loop-less : tie.Need-loop-less Inv-loop μ-loop
 loop-less c = search needs
 
 loop-again : tie.Need-loop-again Inv-loop μ-loop
-loop-again c = (omega arith, set-turn _ _ (omega arith) (omega arith) (c .before .before .before .loop .inv .1) (c .with-if .ensures))
+loop-again c = (omega arith, set-turn _ _ (omega arith) (omega arith) (c .before .before .before .loop .inv .1) (rw (c .before .end-by .ensures) at (c .with-if .ensures)))
 
 returns : tie.Need-returns Inv-loop μ-loop
 returns c = set-end _ _ (omega arith) (c .before .loop .inv .1)
@@ -53,9 +47,7 @@ ending-spec =
     μ-loop
     loop-holds
     sub-left
-    cast-end
-    mul-end
-    element-copy-out-end
+    end-by-requires
     with-if-requires
     loop-less
     loop-again

@@ -1,18 +1,15 @@
 -- `steps::next_event` meets its contract. Assumes nothing.
-use Rattle.steps.proofs.TheEvent.{event-of}
+use Rattle.steps.proofs.Nearest.{event-made}
 use native.Mathlib.Omega.{arith}
 use borrow.Author.Needs.{needs}
 use Rattle.steps.proofs.next_event.Statement.{statement}
 use Rattle.steps.proofs.next_event.Tie as tie
 
-hear-all-requires : tie.Need-hear-all-requires
-hear-all-requires c κs = search needs
+aim-of-requires : tie.Need-aim-of-requires
+aim-of-requires c κs = search needs
 
-soonest-requires : tie.Need-soonest-requires
-soonest-requires c κs = search needs
-
-soonest-requires-2 : tie.Need-soonest-requires-2
-soonest-requires-2 c κs = search needs
+end-of-requires : tie.Need-end-of-requires
+end-of-requires c κs = search needs
 
 first-of-requires : tie.Need-first-of-requires
 first-of-requires c κs = search needs
@@ -22,21 +19,8 @@ ending-requires c κs = search needs
 
 returns : tie.Need-returns
 returns c =
-    event-of
-    (c .before .before .before .before .before .before .before .before .before .before .before .before .pre .lasts)
-    (c .before .before .before .before .before .before .before .before .before .hear-all .ensures)
-    (c .before .before .before .before .before .soonest .ensures)
-    (c .before .before .before .soonest2 .ensures)
-    (c .before .before .first-of .ensures)
-    (c .ending .ensures)
+    let a = c .before .before .before .before .args in
+    event-made (a .kept .now) (a .starts .now) (a .durations .now) (a .n) (c .before .before .before .aim-of .ensures) (c .before .before .end-of .ensures) (c .before .first-of .ensures) (c .ending .ensures)
 
 pub next-event-spec : {M : Type 1} → statement M
-next-event-spec =
-    tie.close
-    (tie.spec
-    hear-all-requires
-    soonest-requires
-    soonest-requires-2
-    first-of-requires
-    ending-requires
-    returns)
+next-event-spec = tie.close (tie.spec aim-of-requires end-of-requires first-of-requires ending-requires returns)

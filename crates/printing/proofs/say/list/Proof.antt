@@ -8,19 +8,13 @@ use Rattle.printing.proofs.say.list.Statement.{statement}
 use Rattle.printing.proofs.say.list.Tie as tie
 
 abbrev Inv-loop : tie.InvT-loop
-Inv-loop reply lines₀ count ponds reasons now₀ i₀ lines now i = (i ≤ count) × (count ≤ mostPoints) × (length lines ≡ length lines₀)
+Inv-loop rows ponds reply points lines₀ count now₀ i₀ lines now i = (i ≤ count) × (count ≤ mostPoints) × (length lines ≡ length lines₀)
 
 abbrev μ-loop : tie.MeasureT-loop
-μ-loop reply lines₀ count ponds reasons now₀ i₀ lines now i = count - i
+μ-loop rows ponds reply points lines₀ count now₀ i₀ lines now i = count - i
 
 listed-requires : tie.Need-listed-requires Inv-loop μ-loop
 listed-requires c κs = search needs
-
-ponds-of-requires : tie.Need-ponds-of-requires Inv-loop μ-loop
-ponds-of-requires c κs = search needs
-
-reasons-of-requires : tie.Need-reasons-of-requires Inv-loop μ-loop
-reasons-of-requires c κs = search needs
 
 loop-holds : tie.Need-loop-holds Inv-loop μ-loop
 loop-holds c = search needs
@@ -53,8 +47,6 @@ list-spec =
     Inv-loop
     μ-loop
     listed-requires
-    ponds-of-requires
-    reasons-of-requires
     loop-holds
     line-at-requires
     put-requires

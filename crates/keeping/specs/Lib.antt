@@ -1,0 +1,3 @@
+-- What a reader has to believe of the kept counts. No proofs are here.
+pub mod Counts
+pub mod Keeps

@@ -1,0 +1,60 @@
+-- `kept::changes::free_all` meets its contract. Assumes nothing.
+use native.Mathlib.Omega.{arith}
+use borrow.Author.Needs.{needs}
+use mathlib.Core.Path.{refl}
+use Rattle.neighbours.proofs.Walking.{Walking, walk-start, walk-turn, walk-end, step}
+use Rattle.kept.specs.Rooms.{freedAt}
+use Rattle.kept.proofs.changes.free_all.Statement.{statement}
+use Rattle.kept.proofs.changes.free_all.Tie as tie
+
+abbrev Inv-loop : tie.InvT-loop
+Inv-loop rows into kept₀ z t i₀ left₀ kept i left = Walking (freedAt rows t) into z kept₀ kept i left
+
+abbrev μ-loop : tie.MeasureT-loop
+μ-loop rows into kept₀ z t i₀ left₀ kept i left = left
+
+start-requires : tie.Need-start-requires Inv-loop μ-loop
+start-requires c κs = search needs
+
+loop-holds : tie.Need-loop-holds Inv-loop μ-loop
+loop-holds c = walk-start _ _ _ _ _ (c .start .ensures)
+
+row-at-requires : tie.Need-row-at-requires Inv-loop μ-loop
+row-at-requires c κs = search needs
+
+free-requires : tie.Need-free-requires Inv-loop μ-loop
+free-requires c κs = search needs
+
+sub-left : tie.Need-sub-left Inv-loop μ-loop
+sub-left c = omega (arith, c .before .before .before .before .loop .inv .fuel (c .before .before .before .loop-test .taken))
+
+onward-requires : tie.Need-onward-requires Inv-loop μ-loop
+onward-requires c κs = search needs
+
+loop-less : tie.Need-loop-less Inv-loop μ-loop
+loop-less c = omega (arith, c .before .before .before .before .before .loop .inv .fuel (c .before .before .before .before .loop-test .taken))
+
+loop-again : tie.Need-loop-again Inv-loop μ-loop
+loop-again c =
+    let l = c .before .before .before .before .before .loop in
+    let h = c .before .before .before .before .loop-test .taken in
+    walk-turn (l .inv) _ _ _ (rw (c .before .before .before .row-at .ensures) at (c .before .free .ensures)) (step _ _ _ _ _ h (l .inv .fuel h) refl (c .onward .ensures))
+
+returns : tie.Need-returns Inv-loop μ-loop
+returns c = walk-end (c .before .loop .inv) (c .loop-test .left)
+
+pub free-all-spec : {M : Type 1} → statement M
+free-all-spec =
+    tie.close
+    (tie.spec
+    Inv-loop
+    μ-loop
+    start-requires
+    loop-holds
+    row-at-requires
+    free-requires
+    sub-left
+    onward-requires
+    loop-less
+    loop-again
+    returns)

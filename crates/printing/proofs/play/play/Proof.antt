@@ -1,0 +1,38 @@
+-- `printing::play::play` meets its contract. Assumes nothing.
+use native.Mathlib.Omega.{arith}
+use borrow.Author.Needs.{needs}
+use Rattle.printing.proofs.play.play.Statement.{statement}
+use Rattle.printing.proofs.play.play.Tie as tie
+
+fill-rooms-requires : tie.Need-fill-rooms-requires
+fill-rooms-requires c κs = search needs
+
+opened-requires : tie.Need-opened-requires
+opened-requires c κs = search needs
+
+play-on-requires : tie.Need-play-on-requires
+play-on-requires c κs = omega (arith, c .before .before .before .before .before .before .before .before .before .opened .ensures, c .before .before .before .before .before .before .before .before .before .before .before .before .before .before .before .before .before .before .before .before .before .before .before .before .pre)
+
+board-of-requires : tie.Need-board-of-requires
+board-of-requires c κs = search needs
+
+same-length : tie.Need-same-length
+same-length c = search needs
+
+same-length-2 : tie.Need-same-length-2
+same-length-2 c = search needs
+
+returns : tie.Need-returns
+returns c = search needs
+
+pub play-spec : {M : Type 1} → statement M
+play-spec =
+    tie.close
+    (tie.spec
+    fill-rooms-requires
+    opened-requires
+    play-on-requires
+    board-of-requires
+    same-length
+    same-length-2
+    returns)

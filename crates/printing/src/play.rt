@@ -1,0 +1,310 @@
+// The events: each is taken in the engine's rooms, answered, and its lines written before the next read. No plan is passed on here.
+ghost use mathlib.Core.Path.{_≡_};
+ghost use Prim.Native.Nat.{_*_, _≤_};
+ghost use lib.ListN.{length};
+ghost use Rattle.plan.specs.Limits.{recordBytes};
+use crate::RECORD;
+use crate::input::carried;
+use crate::input::read_on;
+use crate::out::Out;
+use crate::out::flush;
+use crate::out::put;
+use crate::say::shown;
+use board::Board;
+use engine::KEPT;
+use engine::LIST;
+use links::Links;
+use places::ROOM;
+use places::kept_line;
+use places::ponds_of;
+use rows::SHEET;
+use std::num::wrapping_add_u64;
+use stream::Sheet;
+
+// Whether there is a plan to play, the number of the next event and the lines; how many bytes stand in the chunk, of which `past`
+// records are answered, and whether there may be more to read.
+pub struct Went {
+    pub playing: bool,
+    pub events: u64,
+    pub out: Out,
+    pub at: usize,
+    pub past: usize,
+    pub more: bool,
+}
+
+// The board at the end, the bytes of an unfinished record, and the lines.
+pub struct Played {
+    pub board: Board,
+    pub at: usize,
+    pub out: Out,
+}
+
+// The plan's links and ponds.
+struct Begun {
+    links: Links,
+    ponds: [u32; ROOM],
+}
+
+// The number of the next event, and the lines.
+struct Said {
+    events: u64,
+    out: Out,
+}
+
+// An event: one line, or, in full, its reply number and the record beside it, and what the board is then.
+fn event(
+    full: bool,
+    links: Links,
+    ponds: [u32; ROOM],
+    rows: &[u64; SHEET],
+    into: &[u32; LIST],
+    from: &[u32; LIST],
+    ends: &[u32; LIST],
+    kept: &mut [u32; KEPT],
+    bytes: &[u8],
+    k: u64,
+    lines: &mut [u8],
+    out: Out,
+) -> Out {
+    let found = engine::take(links, rows, into, from, ends, &mut *kept, bytes);
+    if !full {
+        return put(lines, out, kept_line(&*kept, k, found.number));
+    }
+    let now = put(lines, out, text::reply_line(k, found.number, found.place));
+    shown(links, ponds, rows, from, &*kept, lines, now)
+}
+
+// How many of so many bytes' records are events.
+fn whole(playing: bool, at: usize) -> usize
+    ensures { λ n. ⌜ recordBytes * n ≤ at ⌝ }
+{
+    if playing { at / RECORD } else { 0 }
+}
+
+// The whole records of the chunk that are not answered yet.
+fn events(
+    full: bool,
+    links: Links,
+    ponds: [u32; ROOM],
+    rows: &[u64; SHEET],
+    into: &[u32; LIST],
+    from: &[u32; LIST],
+    ends: &[u32; LIST],
+    kept: &mut [u32; KEPT],
+    before: Went,
+    chunk: &[u8],
+    lines: &mut [u8],
+) -> Said
+    requires { ⌜ before .at ≤ length (now chunk) ⌝ }
+{
+    let n = whole(before.playing, before.at);
+    let mut k = before.events;
+    let mut out = before.out;
+    let mut next = before.past;
+    while next < n {
+        let at = RECORD * next;
+        let bytes = &chunk[at..at + RECORD];
+        out = event(
+            full,
+            links,
+            ponds,
+            rows,
+            into,
+            from,
+            ends,
+            &mut *kept,
+            bytes,
+            k,
+            lines,
+            out,
+        );
+        k = wrapping_add_u64(k, 1);
+        next += 1;
+    }
+    Said {
+        events: k,
+        out: out,
+    }
+}
+
+// One read, if there may be more.
+fn read_more(more: bool, chunk: &mut [u8], at: usize) -> usize
+    requires { ⌜ at ≤ length (now chunk) ⌝ }
+    ensures { λ n. ⌜ n ≤ length (now (chunk .exit)) ⌝ }
+{
+    if !more {
+        return at;
+    }
+    read_on(chunk, at)
+}
+
+// What has come is answered and the lines are written; then one read.
+fn turn(
+    full: bool,
+    links: Links,
+    ponds: [u32; ROOM],
+    rows: &[u64; SHEET],
+    into: &[u32; LIST],
+    from: &[u32; LIST],
+    ends: &[u32; LIST],
+    kept: &mut [u32; KEPT],
+    before: Went,
+    chunk: &mut [u8],
+    lines: &mut [u8],
+) -> Went
+    requires { ⌜ before .at ≤ length (now chunk) ⌝ }
+    ensures { λ w. ⌜ w .at ≤ length (now (chunk .exit)) ⌝ }
+{
+    let said = events(
+        full,
+        links,
+        ponds,
+        rows,
+        into,
+        from,
+        ends,
+        &mut *kept,
+        before,
+        chunk,
+        lines,
+    );
+    let out = flush(lines, said.out);
+    let left = carried(chunk, before.at, false);
+    let n = read_more(before.more & out.open, chunk, left);
+    Went {
+        playing: before.playing,
+        events: said.events,
+        out: out,
+        at: n,
+        past: 0,
+        more: left < n,
+    }
+}
+
+// All events, to the end of the input.
+fn play_on(
+    full: bool,
+    links: Links,
+    ponds: [u32; ROOM],
+    rows: &[u64; SHEET],
+    into: &[u32; LIST],
+    from: &[u32; LIST],
+    ends: &[u32; LIST],
+    kept: &mut [u32; KEPT],
+    first: Went,
+    chunk: &mut [u8],
+    lines: &mut [u8],
+) -> Went
+    requires { ⌜ first .at ≤ length (now chunk) ⌝ }
+{
+    let mut now = first;
+    let mut turns = u64::MAX;
+    while turns > 0 {
+        now = turn(
+            full,
+            links,
+            ponds,
+            rows,
+            into,
+            from,
+            ends,
+            &mut *kept,
+            now,
+            chunk,
+            lines,
+        );
+        if !now.more {
+            return now;
+        }
+        turns -= 1;
+    }
+    now
+}
+
+// In full, what the board is before all events.
+fn opened(
+    full: bool,
+    links: Links,
+    ponds: [u32; ROOM],
+    rows: &[u64; SHEET],
+    from: &[u32; LIST],
+    kept: &[u32; KEPT],
+    first: Went,
+    lines: &mut [u8],
+) -> Went
+    ensures { λ w. ⌜ w .at ≡ first .at ⌝ }
+{
+    if !(full & first.playing) {
+        return first;
+    }
+    let mut now = first;
+    now.out = shown(links, ponds, rows, from, kept, lines, first.out);
+    now
+}
+
+// The links of the sheet's plan and its ponds, the rooms filled.
+fn fill_rooms(
+    sheet: Sheet,
+    rows: &mut [u64; SHEET],
+    into: &mut [u32; LIST],
+    from: &mut [u32; LIST],
+    ends: &mut [u32; LIST],
+    kept: &mut [u32; KEPT],
+) -> Begun {
+    let plan = sheet.plan;
+    let started = engine::begin(
+        plan,
+        &mut *rows,
+        &mut *into,
+        &mut *from,
+        &mut *ends,
+        &mut *kept,
+    );
+    let links = started.links;
+    let ponds = ponds_of(plan);
+    Begun {
+        links: links,
+        ponds: ponds,
+    }
+}
+
+// Fills the rooms and plays the sheet's plan to the end of the input.
+pub(crate) fn play(
+    full: bool,
+    sheet: Sheet,
+    first: Went,
+    chunk: &mut [u8],
+    lines: &mut [u8],
+) -> Played
+    requires { ⌜ first .at ≤ length (now chunk) ⌝ }
+{
+    let mut rows = [0u64; SHEET];
+    let mut into = [0u32; LIST];
+    let mut from = [0u32; LIST];
+    let mut ends = [0u32; LIST];
+    let mut kept = [0u32; KEPT];
+    let start = fill_rooms(sheet, &mut rows, &mut into, &mut from, &mut ends, &mut kept);
+    let links = start.links;
+    let ponds = start.ponds;
+    let open = opened(full, links, ponds, &rows, &from, &kept, first, lines);
+    let went = play_on(
+        full,
+        links,
+        ponds,
+        &rows,
+        &into,
+        &from,
+        &ends,
+        &mut kept,
+        open,
+        chunk,
+        lines,
+    );
+    let board = engine::board_of(&kept);
+    let out = went.out;
+    Played {
+        board: board,
+        at: went.at,
+        out: out,
+    }
+}

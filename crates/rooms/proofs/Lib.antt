@@ -1,0 +1,3 @@
+-- The proofs of the rooms that belong to no one function. `engine` cites them.
+pub mod Beginning
+mod Counting

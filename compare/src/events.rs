@@ -143,6 +143,25 @@ pub fn spoiled(draw: &mut Draw, plan: &Plan, at: &Board, good: Record) -> Record
     bytes
 }
 
+/// An end of a running link, with no foreman's point, one minute past the latest or later, while something is open: 30, if no link
+/// is left behind.
+pub fn too_late(draw: &mut Draw, plan: &Plan, at: &Board) -> Option<Record> {
+    if board::open_points(plan, at).is_empty() {
+        return None;
+    }
+    let latest = board::latest(plan, at);
+    let ends = running(plan, at);
+    let ends = ends.iter().filter(|l| at.minute(l.a) + l.y > latest);
+    let ends: Vec<&Link> = ends.collect();
+    if ends.is_empty() {
+        return None;
+    }
+    let link = draw.pick(&ends);
+    let first = (latest + 1).max(at.minute(link.a) + link.x);
+    let minute = draw.edgy(first, at.minute(link.a) + link.y);
+    Some(record(minute as u32, 255, 1 << link.c))
+}
+
 /// An event that has little to do with the board.
 pub fn noise(draw: &mut Draw, plan: &Plan, at: &Board) -> Record {
     match draw.below(8) {

@@ -4,6 +4,7 @@ use crate::damage;
 use crate::draw::Draw;
 use crate::events::{self, Style, MARK, STYLES};
 use crate::plans::{self, Sizes, FULL};
+use crate::rare;
 use oracle::plan::{self, Plan, RawRecord, RECORD, ROOM};
 
 pub struct Input {
@@ -43,8 +44,16 @@ fn events_for(draw: &mut Draw, plan_part: &[u8], made_from: &Plan) -> Vec<u8> {
     }
 }
 
-/// The batch of this number: every eighty batches hold each kind of input.
+/// The batch of this number: every eighty batches hold each kind of input, and some what is rare in them.
 pub fn batch(draw: &mut Draw, number: u64) -> Vec<Input> {
+    let mut inputs = of_kind(draw, number);
+    if rare::is_due(number) {
+        inputs.extend(rare::inputs(draw));
+    }
+    inputs
+}
+
+fn of_kind(draw: &mut Draw, number: u64) -> Vec<Input> {
     match number * 7 % 40 {
         0..=6 => passing_runs(draw),
         7..=8 => layered_runs(draw),

@@ -16,6 +16,7 @@ pub mod plans;
 pub mod player;
 pub mod printed;
 pub mod programs;
+pub mod rare;
 pub mod requests;
 pub mod sheets;
 pub mod shut;

@@ -7,19 +7,20 @@ use crate::events;
 use crate::inputs::Input;
 use crate::links;
 use crate::plans::{self, Sizes, FULL};
+use crate::rare;
 use oracle::board::{self, Board, Clause, PLACES};
 use oracle::event;
 use oracle::plan::{Link, Plan, RawRecord, BOUND, RECORD, ROOM};
 use oracle::plan_test;
 
-const REPLY: u8 = 16;
-const TAKE: u8 = 17;
+pub const REPLY: u8 = 16;
+pub const TAKE: u8 = 17;
 pub const VERDICT: u8 = 18;
-const CHECK: u8 = 19;
-const WRITE: u8 = 20;
-const TEST: u8 = 21;
-const READ: u8 = 22;
-const JUDGE: u8 = 23;
+pub const CHECK: u8 = 19;
+pub const WRITE: u8 = 20;
+pub const TEST: u8 = 21;
+pub const READ: u8 = 22;
+pub const JUDGE: u8 = 23;
 pub const STREAM: u8 = 24;
 
 /// So many bounds of a list are judged, so many numbers a stream's room has at most, and so many are said of one event.
@@ -50,7 +51,7 @@ impl Requests {
         self.ask(2, [r.kind, r.a, r.b], numbers);
     }
 
-    fn records(&mut self, count: u32, records: &[RawRecord]) {
+    pub fn records(&mut self, count: u32, records: &[RawRecord]) {
         self.ask(1, [0; 3], [count, 0, 0]);
         for record in records {
             self.record(record);
@@ -87,8 +88,16 @@ impl Requests {
     }
 }
 
-/// The batch of this number: every fifteen hold each kind.
+/// The batch of this number: every fifteen hold each kind, and some what is rare in them.
 pub fn batch(draw: &mut Draw, number: u64) -> Vec<Input> {
+    let mut inputs = of_kind(draw, number);
+    if rare::is_due(number) {
+        inputs.extend(rare::requests(draw));
+    }
+    inputs
+}
+
+fn of_kind(draw: &mut Draw, number: u64) -> Vec<Input> {
     match number % 15 {
         0..=1 => boards(draw, true),
         2..=3 => boards(draw, false),
@@ -163,7 +172,7 @@ fn settled(draw: &mut Draw, plan: &Plan, mut board: Board) -> Board {
 }
 
 /// A sound board, few of which any events lead to; one in four is finished.
-fn sound(draw: &mut Draw, plan: &Plan) -> Board {
+pub fn sound(draw: &mut Draw, plan: &Plan) -> Board {
     let all = draw.one_in(4);
     let scale = draw.pick(&[1, 3, 20, 100, 5_000, BOUND - 40]);
     let often = 1 + draw.below(4);
@@ -274,7 +283,7 @@ fn some_point(draw: &mut Draw, test: impl Fn(usize) -> bool) -> Option<usize> {
 
 /// Moves a board to the edge of one clause of soundness, or one past it; says which. Most of them are numbered anew, so that
 /// the numbers say nothing against it.
-fn one_off(draw: &mut Draw, plan: &Plan, board: &mut Board) -> &'static str {
+pub fn one_off(draw: &mut Draw, plan: &Plan, board: &mut Board) -> &'static str {
     if draw.one_in(4) {
         let off = draw.pick(&NUMBERS);
         numbers_off(draw, plan, board, off);
@@ -383,7 +392,7 @@ fn minutes_off(draw: &mut Draw, plan: &Plan, board: &mut Board) -> &'static str 
 }
 
 /// What may be wrong with the event numbers of a board, each by one thing; the last ones change nothing of its soundness.
-const NUMBERS: [&str; 15] = [
+pub const NUMBERS: [&str; 15] = [
     "a gap",
     "a gap within the count",
     "a number past 32",
@@ -517,6 +526,22 @@ fn meant(off: &str) -> &'static [Clause] {
     }
 }
 
+/// A sound board, and the same with its event numbers off like that and nothing else wrong, if that can be.
+pub fn numbered_off(draw: &mut Draw, plan: &Plan, off: &str) -> Option<(Board, Board)> {
+    let at = if draw.one_in(2) {
+        reached(draw, plan)
+    } else {
+        sound(draw, plan)
+    };
+    let mut other = at;
+    numbers_off(draw, plan, &mut other, off);
+    let changed = other != at || meant(off).is_empty();
+    // Points of one event leave room for a gap.
+    let within = off == "a gap within the count";
+    let past = within && other.numbers.iter().any(|number| *number > at.count());
+    (changed && !past && board::broken(plan, &other) == meant(off)).then_some((at, other))
+}
+
 /// Boards with event numbers one clause off, nothing else being wrong with them, and boards on the other side of it.
 fn event_numbers(draw: &mut Draw) -> Vec<Input> {
     let mut inputs = Vec::new();
@@ -532,21 +557,9 @@ fn event_numbers(draw: &mut Draw) -> Vec<Input> {
                 1 => plans::any_trucks(draw),
                 _ => good_plan(draw),
             };
-            let at = if draw.one_in(2) {
-                reached(draw, &plan)
-            } else {
-                sound(draw, &plan)
+            let Some((at, other)) = numbered_off(draw, &plan, off) else {
+                continue;
             };
-            let mut other = at;
-            numbers_off(draw, &plan, &mut other, off);
-            let changed = other != at || meant(off).is_empty();
-            if !changed || board::broken(&plan, &other) != meant(off) {
-                continue;
-            }
-            // Points of one event leave room for a gap.
-            if within && other.numbers.iter().any(|number| *number > at.count()) {
-                continue;
-            }
             let event = event_for(draw, &plan, &at);
             requests.plan(&plan);
             requests.buffer(&event, RECORD, 0);
@@ -600,6 +613,31 @@ fn boards(draw: &mut Draw, off: bool) -> Vec<Input> {
     inputs
 }
 
+/// Points that are not open, on so many boards of a plan.
+pub fn asked_for(draw: &mut Draw, plan: &Plan, boards: usize) -> Requests {
+    let mut requests = Requests::default();
+    requests.plan(plan);
+    for _ in 0..boards {
+        let at = match draw.below(3) {
+            0 => Board::fresh(),
+            1 => reached(draw, plan),
+            _ => sound(draw, plan),
+        };
+        requests.board(&at);
+        requests.call(REPLY);
+        let events = events::not_open(draw, plan, &at);
+        for event in events.iter().take(8) {
+            requests.buffer(event, RECORD, 0);
+            requests.call(TAKE);
+        }
+        let bytes = events.concat();
+        requests.buffer(&bytes, bytes.len(), 0);
+        let room = SAID * events.len();
+        requests.ask(STREAM, [0; 3], [room as u32, 9, 0]);
+    }
+    requests
+}
+
 /// Points that are not open, asked for one by one and in a stream.
 fn not_open(draw: &mut Draw) -> Vec<Input> {
     let mut inputs = Vec::new();
@@ -608,26 +646,7 @@ fn not_open(draw: &mut Draw) -> Vec<Input> {
             0 => good_plan(draw),
             _ => plans::barred(draw),
         };
-        let mut requests = Requests::default();
-        requests.plan(&plan);
-        for _ in 0..5 {
-            let at = match draw.below(3) {
-                0 => Board::fresh(),
-                1 => reached(draw, &plan),
-                _ => sound(draw, &plan),
-            };
-            requests.board(&at);
-            requests.call(REPLY);
-            let events = events::not_open(draw, &plan, &at);
-            for event in events.iter().take(8) {
-                requests.buffer(event, RECORD, 0);
-                requests.call(TAKE);
-            }
-            let bytes = events.concat();
-            requests.buffer(&bytes, bytes.len(), 0);
-            let room = SAID * events.len();
-            requests.ask(STREAM, [0; 3], [room as u32, 9, 0]);
-        }
+        let requests = asked_for(draw, &plan, 5);
         inputs.push(Input {
             what: "points that are not open".to_string(),
             bytes: requests.0,
@@ -695,7 +714,7 @@ fn any_plans(draw: &mut Draw) -> Vec<Input> {
 }
 
 /// A record as it stands in a file.
-fn raw(bytes: &[u8]) -> RawRecord {
+pub fn raw(bytes: &[u8]) -> RawRecord {
     let number = |at: usize| u32::from_le_bytes([0, 1, 2, 3].map(|place| bytes[at + place]));
     RawRecord {
         kind: bytes[0],
@@ -788,7 +807,7 @@ fn events_of_any_length(draw: &mut Draw) -> Vec<Input> {
 type Bound = (u8, u8, i32);
 
 /// A sound board on which all is done.
-fn finished(draw: &mut Draw, plan: &Plan) -> Board {
+pub fn finished(draw: &mut Draw, plan: &Plan) -> Board {
     loop {
         let at = sound(draw, plan);
         if at.count() as usize == plan.points() {

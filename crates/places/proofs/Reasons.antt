@@ -10,6 +10,8 @@ use lib.ListN.{length, getD}
 use lib.Signed.{mag}
 use borrow.Author.Tests.{lt-ltb, le-ltb, eqb-true}
 use Rattle.numbers.specs.Numbers.{gapOf}
+use Rattle.points.specs.Sets.{countOf}
+use Rattle.kept.specs.Rooms.{clockAt, doneAt}
 use Rattle.records.specs.Held.{Held}
 use Rattle.records.specs.Records.{link, is}
 use Rattle.records.specs.declared.Record.{Record}
@@ -20,7 +22,8 @@ use Rattle.rows.specs.Layout.{LaidOut}
 use Rattle.rows.specs.declared.sheet.Row.{Row}
 use Rattle.board.specs.declared.Taken.{Taken}
 use Rattle.engine.specs.Takes.{BoardIn}
-use Rattle.text.specs.Lines.{eventLine, recordPieces}
+use Rattle.text.specs.Lines.{numbersLine, eventLine, recordPieces}
+use Rattle.lines.specs.declared.Line.{Line}
 use Rattle.places.specs.Places.{joined, reasonOf, reasonAt, keptLine}
 
 -- the record that the code puts together
@@ -37,6 +40,10 @@ joined-again (negsuc n) h =
     let e : (0 % 2 ^ 32 + (2 ^ 32 - (n + 1) % 2 ^ 32)) % 2 ^ 32 ≡ 2 ^ 32 - 1 - n = omega arith in
     let f : 2 ^ 32 - 1 - (2 ^ 32 - 1 - n) ≡ n = omega arith in
     rw e (rw (le-ltb (2 ^ 32 - 1 - n) (2 ^ 31) (omega arith), f))
+
+-- the line that the code makes of an event
+pub kept-line-by : (kept : List ℕ) (k n : ℕ) {m : ℕ} {l : Line} → m ≡ countOf (getD kept doneAt 0) → l ≡ numbersLine k n (getD kept clockAt 0) m → l ≡ keptLine kept k n
+kept-line-by kept k n e f = rw (f, e)
 
 -- the line of an event is that of the board that is kept
 pub kept-line-is : (kept : List ℕ) (k : ℕ) (t : Taken) → BoardIn kept (t .board) → keptLine kept k (t .number) ≡ eventLine k t

@@ -17,9 +17,9 @@ use links::Links;
 use places::ROOM;
 use places::kept_line;
 use places::ponds_of;
+use plan::Plan;
 use rows::SHEET;
 use std::num::wrapping_add_u64;
-use stream::Sheet;
 
 // Whether there is a plan to play, the number of the next event and the lines; how many bytes stand in the chunk, of which `past`
 // records are answered, and whether there may be more to read.
@@ -37,12 +37,6 @@ pub struct Played {
     pub board: Board,
     pub at: usize,
     pub out: Out,
-}
-
-// The plan's links and ponds.
-struct Begun {
-    links: Links,
-    ponds: [u32; ROOM],
 }
 
 // The number of the next event, and the lines.
@@ -242,36 +236,10 @@ fn opened(
     now
 }
 
-// The links of the sheet's plan and its ponds, the rooms filled.
-fn fill_rooms(
-    sheet: Sheet,
-    rows: &mut [u64; SHEET],
-    into: &mut [u32; LIST],
-    from: &mut [u32; LIST],
-    ends: &mut [u32; LIST],
-    kept: &mut [u32; KEPT],
-) -> Begun {
-    let plan = sheet.plan;
-    let started = engine::begin(
-        plan,
-        &mut *rows,
-        &mut *into,
-        &mut *from,
-        &mut *ends,
-        &mut *kept,
-    );
-    let links = started.links;
-    let ponds = ponds_of(plan);
-    Begun {
-        links: links,
-        ponds: ponds,
-    }
-}
-
-// Fills the rooms and plays the sheet's plan to the end of the input.
+// Fills the rooms and plays the plan to the end of the input.
 pub(crate) fn play(
     full: bool,
-    sheet: Sheet,
+    plan: Plan,
     first: Went,
     chunk: &mut [u8],
     lines: &mut [u8],
@@ -283,9 +251,9 @@ pub(crate) fn play(
     let mut from = [0u32; LIST];
     let mut ends = [0u32; LIST];
     let mut kept = [0u32; KEPT];
-    let start = fill_rooms(sheet, &mut rows, &mut into, &mut from, &mut ends, &mut kept);
-    let links = start.links;
-    let ponds = start.ponds;
+    let started = engine::begin(plan, &mut rows, &mut into, &mut from, &mut ends, &mut kept);
+    let links = started.links;
+    let ponds = ponds_of(plan);
     let open = opened(full, links, ponds, &rows, &from, &kept, first, lines);
     let went = play_on(
         full,

@@ -1,5 +1,6 @@
 -- `places::kept_line` meets its contract. Assumes nothing.
 use borrow.Author.Needs.{needs}
+use Rattle.places.proofs.Reasons.{kept-line-by}
 use Rattle.places.proofs.kept_line.Statement.{statement}
 use Rattle.places.proofs.kept_line.Tie as tie
 
@@ -16,7 +17,9 @@ numbers-line-requires : tie.Need-numbers-line-requires
 numbers-line-requires c κs = search needs
 
 returns : tie.Need-returns
-returns c = rw (c .numbers-line .ensures, c .before .before .count .ensures)
+returns c =
+    let s = c .before .before .before .before .args in
+    kept-line-by (s .kept .now) (s .event) (s .number) (c .before .before .count .ensures) (c .numbers-line .ensures)
 
 pub kept-line-spec : {M : Type 1} → statement M
 kept-line-spec =

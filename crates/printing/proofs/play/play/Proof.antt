@@ -4,8 +4,11 @@ use borrow.Author.Needs.{needs}
 use Rattle.printing.proofs.play.play.Statement.{statement}
 use Rattle.printing.proofs.play.play.Tie as tie
 
-fill-rooms-requires : tie.Need-fill-rooms-requires
-fill-rooms-requires c κs = search needs
+begin-requires : tie.Need-begin-requires
+begin-requires c κs = search needs
+
+ponds-of-requires : tie.Need-ponds-of-requires
+ponds-of-requires c κs = search needs
 
 opened-requires : tie.Need-opened-requires
 opened-requires c κs = search needs
@@ -29,7 +32,8 @@ pub play-spec : {M : Type 1} → statement M
 play-spec =
     tie.close
     (tie.spec
-    fill-rooms-requires
+    begin-requires
+    ponds-of-requires
     opened-requires
     play-on-requires
     board-of-requires

@@ -1,2 +1,3 @@
 -- Each contract permits a single reply.
+mod Rooms
 pub mod SingleReply

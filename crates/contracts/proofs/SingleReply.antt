@@ -1,10 +1,11 @@
 -- What each open function ensures permits a single reply for each argument, lent rooms included, and none asks anything. A contract
--- that is an equation does so by one law; that of the plan test does by `one-answer`, and that of the lighter plan by `one-lighter`. Assumes
--- nothing.
+-- that is an equation does so by one law; that of the plan test does by `one-answer`, that of the lighter plan by `one-lighter`, and those of the
+-- engine as `Rooms` says. Assumes nothing.
 use mathlib.Core.Path.{_≡_, sym, _∙_}
 use Rattle.vee.proofs.Single.{one-answer}
 use Rattle.lighter.proofs.Theorems.{one-lighter}
 use Rattle.contracts.specs.Contracts.{SingleReplies}
+use Rattle.contracts.proofs.Rooms.{one-board, one-reply, one-taken, one-room}
 
 -- an equation permits one
 same : {A : Type 0} {x r r′ : A} → r ≡ x → r′ ≡ x → r ≡ r′
@@ -42,6 +43,10 @@ single-replies =
       is-sound = (λ κ a. tt, λ κ a r r′ o o′ x y. same x y);
       is-finished = (λ κ a. tt, λ κ a r r′ o o′ x y. same x y);
       reply-of = (λ κ a. tt, λ κ a r r′ o o′ x y. same (x .0) (y .0));
+      board-of = (λ κ a. tt, λ κ a r r′ o o′ x y. one-board _ r r′ x y);
+      reply = (λ κ a. tt, λ κ a r r′ o o′ x y. one-reply _ _ _ _ r r′ x y);
+      take = (λ κ a. tt, λ κ a r r′ o o′ x y. one-taken _ _ _ _ _ _ _ r r′ _ _ x y);
+      take-leaves = λ κ a r r′ o o′ x y. one-room _ _ _ _ _ _ _ r r′ _ _ x y;
       ended = (λ κ a. tt, λ κ a r r′ o o′ x y. same x y);
       verdict-of = (λ κ a. tt, λ κ a r r′ o o′ x y. same (x .0) (y .0));
       judge = λ p b list r r′. same;

@@ -29,6 +29,9 @@ use Rattle.board.proofs.Board.take_all.Reads as take-all-code
 use Rattle.board.proofs.is_sound.Reads as is-sound-code
 use Rattle.board.proofs.is_finished.Reads as is-finished-code
 use Rattle.replies.proofs.reply_of.Reads as reply-of-code
+use Rattle.engine.proofs.board_of.Reads as board-of-code
+use Rattle.engine.proofs.reply.Reads as reply-code
+use Rattle.engine.proofs.take.Reads as take-code
 use Rattle.verdict.proofs.ended.Reads as ended-code
 use Rattle.verdict.proofs.verdict_of.Reads as verdict-of-code
 use Rattle.lent.proofs.judge_list.Reads as judge-list-code
@@ -112,6 +115,11 @@ pub record SingleReplies : Type 0 where
   pub is-finished : Single is-finished-code.Pre is-finished-code.Post
   -- replies
   pub reply-of : Single reply-of-code.Pre reply-of-code.Post
+  -- engine
+  pub board-of : Single board-of-code.Pre board-of-code.Post
+  pub reply : Single reply-code.Pre reply-code.Post
+  pub take : Single take-code.Pre take-code.Post
+  pub take-leaves : Leaves take-code.Post (λ o. o .1 .1 .1 .1 .1 .0 .now)
   -- verdict
   pub ended : Single ended-code.Pre ended-code.Post
   pub verdict-of : Single verdict-of-code.Pre verdict-of-code.Post

@@ -7,6 +7,7 @@ pub mod damage;
 pub mod desk;
 pub mod draw;
 pub mod events;
+pub mod fewest;
 pub mod icalendar;
 pub mod inputs;
 pub mod lighters;

@@ -9,6 +9,7 @@ pub mod desk;
 pub mod event;
 pub mod import;
 pub mod lighter;
+pub mod min_disp;
 pub mod pack;
 pub mod plan;
 pub mod plan_test;

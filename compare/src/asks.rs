@@ -11,6 +11,7 @@ use crate::links;
 use crate::listings;
 use crate::plans::{self, Sizes, FULL};
 use crate::texts;
+use crate::wraps::{self, WRAPS};
 use oracle::board::{self, Board, Outcome, Place};
 use oracle::close;
 use oracle::event;
@@ -287,6 +288,9 @@ fn about_plans(draw: &mut Draw, verb: &str, kind: usize, tour: u64) -> Vec<Ask> 
             let mut plan = many(draw, None);
             plans::near_miss(draw, &mut plan);
             plans.push(("about 4,096 projections, nearly", plan));
+            for wrap in WRAPS {
+                plans.push(("far too many projections", wraps::plan(draw, wrap)));
+            }
         }
         5 => {
             let mut sizes = Sizes::any(draw);
@@ -413,6 +417,7 @@ fn cases_of(verb: &str, plan: &Plan) -> Vec<String> {
         cases.push(case("no links"));
     }
     cases.extend(links::shapes(plan).into_iter().map(case));
+    cases.extend(wraps::of_plan(plan).into_iter().map(case));
     if plan.ordinary.len() > plan::OLD_ORDINARIES {
         cases.push(case("more than 256 ordinary records"));
     }
@@ -770,6 +775,9 @@ pub fn cases(verb: &str) -> Vec<String> {
     if ["test", "worst", "day", "import"].contains(&verb) {
         let shapes = links::SHAPES.iter();
         cases.extend(shapes.map(|shape| format!("{verb}: {shape}")));
+    }
+    if ["test", "worst", "day"].contains(&verb) {
+        cases.extend(WRAPS.map(|wrap| format!("{verb}: {wrap}")));
     }
     cases
 }

@@ -2,6 +2,7 @@
 
 pub mod asks;
 pub mod calendars;
+pub mod corners;
 pub mod count;
 pub mod damage;
 pub mod desk;
@@ -24,3 +25,4 @@ pub mod shut;
 pub mod smaller;
 pub mod soundness;
 pub mod texts;
+pub mod wraps;

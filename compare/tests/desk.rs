@@ -1519,7 +1519,7 @@ fn right_fault(plan: &Plan, durations: &[i64]) -> Option<Fault> {
     plan_test::fault(plan.points(), &plan_test::edges(plan, durations))
 }
 
-const TESTERS: [(&str, Tester); 8] = [
+const TESTERS: [(&str, Tester); 10] = [
     ("a ring passes", |plan| {
         tested(plan, |p| {
             right_fault(plan, p).filter(|fault| *fault != Fault::Cycle || !links::ringed(plan))
@@ -1564,9 +1564,29 @@ const TESTERS: [(&str, Tester); 8] = [
         },
     ),
     ("4,097 projections are tried", |plan| {
-        let count = plan.links.iter().map(|link| link.y - link.x + 1).product();
-        match count {
-            4_097i64 => Ok(Answer::Yes(4_097)),
+        let spans = plan.links.iter().map(|link| link.y - link.x + 1);
+        match spans.fold(1, i64::saturating_mul) {
+            4_097 => Ok(Answer::Yes(4_097)),
+            _ => plan_test::plan_test(plan),
+        }
+    }),
+    ("projections are counted in 32 bits", |plan| {
+        let spans = plan.links.iter().map(|link| (link.y - link.x + 1) as u32);
+        match (
+            plan_test::projections(plan),
+            spans.fold(1, u32::wrapping_mul),
+        ) {
+            (None, few @ 0..=4_096) => Ok(Answer::Yes(few)),
+            _ => plan_test::plan_test(plan),
+        }
+    }),
+    ("projections are counted in 64 bits", |plan| {
+        let spans = plan.links.iter().map(|link| (link.y - link.x + 1) as u64);
+        match (
+            plan_test::projections(plan),
+            spans.fold(1, u64::wrapping_mul),
+        ) {
+            (None, few @ 0..=4_096) => Ok(Answer::Yes(few as u32)),
             _ => plan_test::plan_test(plan),
         }
     }),

@@ -9,6 +9,7 @@ use crate::inputs;
 use crate::lighters;
 use crate::links;
 use crate::listings;
+use crate::lists;
 use crate::plans::{self, Sizes, FULL};
 use crate::texts;
 use crate::wraps::{self, WRAPS};
@@ -20,8 +21,8 @@ use oracle::plan_test::{self, Answer};
 use oracle::worst;
 
 /// The verbs that can be compared.
-pub const VERBS: [&str; 8] = [
-    "test", "worst", "day", "import", "close", "calendar", "lighter", "pack",
+pub const VERBS: [&str; 9] = [
+    "test", "worst", "day", "import", "close", "calendar", "lighter", "pack", "list",
 ];
 
 /// Numbers that reading a plan file gives.
@@ -54,6 +55,7 @@ fn kinds(verb: &str) -> usize {
         "calendar" => 1 + calendars::KINDS,
         "lighter" => 1 + lighters::KINDS,
         "pack" => 1 + listings::KINDS,
+        "list" => 1 + lists::KINDS,
         _ => PLANS,
     }
 }
@@ -86,6 +88,7 @@ fn of_kind(draw: &mut Draw, verb: &str, kind: usize, tour: u64) -> Vec<Ask> {
         ("calendar", kind) => calendars::batch(draw, kind - 1),
         ("lighter", kind) => lighters::batch(draw, kind - 1),
         ("pack", kind) => listings::batch(draw, kind - 1),
+        ("list", kind) => lists::batch(draw, kind - 1),
         (_, kind) => about_plans(draw, verb, kind, tour),
     }
 }
@@ -836,6 +839,7 @@ fn own_cases(verb: &str) -> Vec<String> {
         "calendar" => return calendars::cases(),
         "lighter" => return lighters::cases(),
         "pack" => return listings::cases(),
+        "list" => return lists::cases(),
         _ => return texts::cases(),
     };
     all.iter().map(|what| format!("{verb}: {what}")).collect()

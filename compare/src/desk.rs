@@ -75,18 +75,26 @@ fn too_much(shown: &Shown) -> bool {
 }
 
 /// What is wrong with what was said, where that can be told without the other program: a calendar is read again and held to
-/// the sheet.
+/// the sheet, and a listing is packed again.
 pub fn fault(words: &[String], input: &[u8], shown: &Shown) -> Option<String> {
-    let [verb, origin @ ..] = words else {
+    let [verb, rest @ ..] = words else {
         return None;
     };
-    if verb != "calendar" || shown.ended != ENDINGS[0] {
+    if shown.ended != ENDINGS[0] {
         return None;
     }
-    let numbers: Option<Vec<i64>> = origin.iter().map(|word| word.parse().ok()).collect();
-    match numbers.and_then(|numbers| numbers.try_into().ok()) {
-        Some(origin) => icalendar::fault(input, origin, &shown.bytes),
-        None => Some("a calendar of words that are none".to_string()),
+    match (verb.as_str(), rest) {
+        ("calendar", origin) => {
+            let numbers: Option<Vec<i64>> = origin.iter().map(|word| word.parse().ok()).collect();
+            match numbers.and_then(|numbers| numbers.try_into().ok()) {
+                Some(origin) => icalendar::fault(input, origin, &shown.bytes),
+                None => Some("a calendar of words that are none".to_string()),
+            }
+        }
+        ("list", []) if pack::pack(&shown.bytes).as_deref() != Ok(input) => {
+            Some("a listing that is not packed to the same bytes".to_string())
+        }
+        _ => None,
     }
 }
 
@@ -178,6 +186,7 @@ pub fn expected(verbs: &[&str]) -> Vec<String> {
             "calendar" => &["file", "31", "51"],
             "lighter" => &["dropped none", "dropped some", "13", "60"],
             "pack" => &["file", "too much"],
+            "list" => &["file"],
             _ => &["file", "40", "41", "42", "43"],
         };
         let own = own.iter().map(|own| own.to_string());
@@ -192,6 +201,10 @@ pub fn expected(verbs: &[&str]) -> Vec<String> {
         };
         all.extend(said.into_iter().map(|said| format!("{verb} {said}")));
         all.extend(asks::cases(verb));
+    }
+    // What `list` prints is packed too.
+    if verbs.contains(&"list") && !verbs.contains(&"pack") {
+        all.push("pack file".to_string());
     }
     all
 }

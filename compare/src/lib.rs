@@ -14,6 +14,7 @@ pub mod inputs;
 pub mod lighters;
 pub mod links;
 pub mod listings;
+pub mod lists;
 pub mod plans;
 pub mod player;
 pub mod printed;

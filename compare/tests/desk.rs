@@ -65,10 +65,11 @@ fn the_same_agree_and_all_comes_up() {
         asks
     };
     let asks = all_comes_up(&asks::VERBS, 1);
-    assert!((700..1_500).contains(&asks), "{asks}");
+    assert!((700..1_800).contains(&asks), "{asks}");
     for seed in 2..8 {
         // A verb left out is not waited for.
         all_comes_up(&["import", "close", "calendar", "lighter", "pack"], seed);
+        all_comes_up(&["list"], seed);
     }
 }
 
@@ -1630,6 +1631,112 @@ fn wrong_tests_are_found() {
     }
 }
 
+/// A listing with each of its lines changed.
+fn relisted(plan: &Plan, change: impl Fn(&[&str]) -> String) -> String {
+    let records = 0..plan.records() as u32;
+    let lines = records.map(|number| text::listed(plan, number));
+    let changed = lines.map(|line| change(&line.split(' ').collect::<Vec<_>>()) + "\n");
+    changed.collect()
+}
+
+type Lister = fn(&Plan) -> String;
+
+const LISTERS: [(&str, Lister); 12] = [
+    ("C before the numbers of a link", |plan| {
+        relisted(plan, |words| match words {
+            [kind @ "link", a, x, y, c] => [*kind, a, c, x, y].join(" "),
+            _ => words.join(" "),
+        })
+    }),
+    ("both points before the bound", |plan| {
+        relisted(plan, |words| match words {
+            [kind @ "ordinary", x, d, y] => [*kind, x, y, d].join(" "),
+            _ => words.join(" "),
+        })
+    }),
+    ("w before C", |plan| {
+        relisted(plan, |words| match words {
+            [kind @ "wait", v, c, w] => [*kind, v, w, c].join(" "),
+            _ => words.join(" "),
+        })
+    }),
+    ("codes are signed", |plan| {
+        relisted(plan, |words| match words {
+            ["point", number, code] => {
+                let code = code.parse::<u32>().unwrap_or(0) as i32;
+                format!("point {number} {code}")
+            }
+            _ => words.join(" "),
+        })
+    }),
+    ("no pond is left out", |plan| {
+        relisted(plan, |words| match words {
+            ["point", number, "0"] => format!("point {number}"),
+            _ => words.join(" "),
+        })
+    }),
+    ("numbers in columns", |plan| {
+        relisted(plan, |words| match words {
+            ["point", number, code] => format!("point {number:>2} {code}"),
+            _ => words.join(" "),
+        })
+    }),
+    ("a space at the end", |plan| {
+        relisted(plan, |words| words.join(" ") + " ")
+    }),
+    ("CR LF", |plan| {
+        relisted(plan, |words| words.join(" ") + "\r")
+    }),
+    ("zero bounds have a sign", |plan| {
+        relisted(plan, |words| match words {
+            ["ordinary", x, "0", y] => format!("ordinary {x} -0 {y}"),
+            _ => words.join(" "),
+        })
+    }),
+    ("an empty line between kinds", |plan| {
+        let text = relisted(plan, |words| words.join(" "));
+        text.replacen("link", "\nlink", 1)
+    }),
+    ("256 ordinary records are listed", |plan| {
+        let mut less = plan.clone();
+        less.ordinary.truncate(OLD_ORDINARIES);
+        relisted(&less, |words| words.join(" "))
+    }),
+    ("waits before ordinary records", |plan| {
+        let text = relisted(plan, |words| words.join(" "));
+        let mut lines: Vec<&str> = text.split_inclusive('\n').collect();
+        lines.sort_by_key(|line| line.starts_with("ordinary"));
+        lines.concat()
+    }),
+];
+
+#[test]
+fn wrong_listings_are_found() {
+    for (what, lister) in LISTERS {
+        found("list", what, &|ask| {
+            of_verb("list", ask, |input| {
+                file(read(input).map(|plan| lister(&plan).into_bytes()))
+            })
+        });
+    }
+    // What `list` prints is packed again by the same program.
+    found("list", "pack takes no listing of many lines", &|ask| {
+        let long = ask.input.iter().filter(|byte| **byte == b'\n').count() > 500;
+        match ask.words.first().map(String::as_str) {
+            Some("pack") if long => shown_too_much(),
+            _ => right(ask),
+        }
+    });
+}
+
+fn shown_too_much() -> Said {
+    Said {
+        output: Vec::new(),
+        errors: format!("{}\n", pack::TOO_MUCH).into_bytes(),
+        status: 2,
+    }
+}
+
 /// The first link of an accepted plan that document 01 refused: its A ends an earlier one, or its C starts one.
 fn old_10(input: &[u8]) -> Option<usize> {
     let plan = plan::read(input).ok()?;
@@ -1654,7 +1761,9 @@ fn wrong_readers_and_outputs_are_found() {
             input[..mark.map_or(input.len(), |mark| 16 * mark)].to_vec()
         }),
     ];
-    let verbs = ["test", "worst", "day", "close", "lighter"];
+    let verbs = [
+        "test", "worst", "day", "close", "lighter", "list",
+    ];
     for verb in verbs {
         for (what, changed) in inputs {
             found(verb, what, &|ask| {

@@ -29,11 +29,12 @@ pub enum Verb {
     Calendar(Origin),
     Lighter,
     Pack,
+    List,
 }
 
 /// The line about wrong usage.
 const USAGE: &str = "usage: oracle-desk test | worst | day PROJECTION | import | close | \
-                     calendar YEAR MONTH DAY HOUR MINUTE | lighter | pack";
+                     calendar YEAR MONTH DAY HOUR MINUTE | lighter | pack | list";
 
 impl Verb {
     /// None where there is no such verb, or the words are not its words.
@@ -51,6 +52,7 @@ impl Verb {
             }
             ["lighter"] => Some(Verb::Lighter),
             ["pack"] => Some(Verb::Pack),
+            ["list"] => Some(Verb::List),
             _ => None,
         }
     }
@@ -66,6 +68,7 @@ impl Verb {
             Verb::Calendar(origin) => file(calendar(input, &origin)),
             Verb::Lighter => lighter(input),
             Verb::Pack => pack(input),
+            Verb::List => file(list(input)),
         }
     }
 }
@@ -181,6 +184,14 @@ fn lighter(file_in: &[u8]) -> Said {
         },
         Err(text) => file(Err(text)),
     }
+}
+
+/// The listing of a plan file, a line for each record.
+fn list(file: &[u8]) -> Result<Vec<u8>, String> {
+    let plan = plan(file)?;
+    let records = 0..plan.records() as u32;
+    let lines = records.flat_map(|number| line(&text::listed(&plan, number)));
+    Ok(lines.collect())
 }
 
 /// The bytes of a listing, or a line about what was expected. That it is too much is wrong usage.

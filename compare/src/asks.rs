@@ -5,6 +5,7 @@ use crate::calendars;
 use crate::damage;
 use crate::draw::Draw;
 use crate::events::MARK;
+use crate::explains;
 use crate::inputs;
 use crate::lighters;
 use crate::links;
@@ -21,8 +22,8 @@ use oracle::plan_test::{self, Answer};
 use oracle::worst;
 
 /// The verbs that can be compared.
-pub const VERBS: [&str; 9] = [
-    "test", "worst", "day", "import", "close", "calendar", "lighter", "pack", "list",
+pub const VERBS: [&str; 10] = [
+    "test", "worst", "day", "import", "close", "calendar", "lighter", "pack", "list", "explain",
 ];
 
 /// Numbers that reading a plan file gives.
@@ -56,6 +57,7 @@ fn kinds(verb: &str) -> usize {
         "lighter" => 1 + lighters::KINDS,
         "pack" => 1 + listings::KINDS,
         "list" => 1 + lists::KINDS,
+        "explain" => 1 + explains::KINDS,
         _ => PLANS,
     }
 }
@@ -89,6 +91,7 @@ fn of_kind(draw: &mut Draw, verb: &str, kind: usize, tour: u64) -> Vec<Ask> {
         ("lighter", kind) => lighters::batch(draw, kind - 1),
         ("pack", kind) => listings::batch(draw, kind - 1),
         ("list", kind) => lists::batch(draw, kind - 1),
+        ("explain", kind) => explains::batch(draw, kind - 1),
         (_, kind) => about_plans(draw, verb, kind, tour),
     }
 }
@@ -840,6 +843,7 @@ fn own_cases(verb: &str) -> Vec<String> {
         "lighter" => return lighters::cases(),
         "pack" => return listings::cases(),
         "list" => return lists::cases(),
+        "explain" => return explains::cases(),
         _ => return texts::cases(),
     };
     all.iter().map(|what| format!("{verb}: {what}")).collect()

@@ -8,6 +8,7 @@ pub mod damage;
 pub mod desk;
 pub mod draw;
 pub mod events;
+pub mod explains;
 pub mod fewest;
 pub mod icalendar;
 pub mod inputs;

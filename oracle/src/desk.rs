@@ -2,6 +2,7 @@
 
 use crate::calendar::{self, Origin};
 use crate::close;
+use crate::explain;
 use crate::import;
 use crate::lighter::{self, Lighter};
 use crate::pack::{self, Refused};
@@ -30,11 +31,12 @@ pub enum Verb {
     Lighter,
     Pack,
     List,
+    Explain,
 }
 
 /// The line about wrong usage.
 const USAGE: &str = "usage: oracle-desk test | worst | day PROJECTION | import | close | \
-                     calendar YEAR MONTH DAY HOUR MINUTE | lighter | pack | list";
+                     calendar YEAR MONTH DAY HOUR MINUTE | lighter | pack | list | explain";
 
 impl Verb {
     /// None where there is no such verb, or the words are not its words.
@@ -53,6 +55,7 @@ impl Verb {
             ["lighter"] => Some(Verb::Lighter),
             ["pack"] => Some(Verb::Pack),
             ["list"] => Some(Verb::List),
+            ["explain"] => Some(Verb::Explain),
             _ => None,
         }
     }
@@ -69,6 +72,7 @@ impl Verb {
             Verb::Lighter => lighter(input),
             Verb::Pack => pack(input),
             Verb::List => file(list(input)),
+            Verb::Explain => lines(explain(input)),
         }
     }
 }
@@ -192,6 +196,11 @@ fn list(file: &[u8]) -> Result<Vec<u8>, String> {
     let records = 0..plan.records() as u32;
     let lines = records.flat_map(|number| line(&text::listed(&plan, number)));
     Ok(lines.collect())
+}
+
+/// What `test` says, and why it says no.
+fn explain(file: &[u8]) -> Result<String, String> {
+    explain::explain(&plan(file)?)
 }
 
 /// The bytes of a listing, or a line about what was expected. That it is too much is wrong usage.

@@ -7,6 +7,7 @@ pub mod calendar;
 pub mod close;
 pub mod desk;
 pub mod event;
+pub mod explain;
 pub mod import;
 pub mod lighter;
 pub mod min_disp;

@@ -59,7 +59,7 @@ pub fn board_of(kept: &[u32; KEPT]) -> Board
 fn number_of(
     links: Links,
     rows: &[u64; SHEET],
-    out: &[u32; LIST],
+    out: &[u16; LIST],
     kept: &[u32; KEPT],
     event: &[u8],
 ) -> Refusal
@@ -75,9 +75,9 @@ fn number_of(
 pub fn take(
     links: Links,
     rows: &[u64; SHEET],
-    into: &[u32; LIST],
-    out: &[u32; LIST],
-    ends: &[u32; LIST],
+    into: &[u16; LIST],
+    out: &[u16; LIST],
+    ends: &[u16; LIST],
     kept: &mut [u32; KEPT],
     event: &[u8],
 ) -> Refusal
@@ -92,7 +92,7 @@ pub fn take(
 }
 
 // The reply.
-pub fn reply(links: Links, rows: &[u64; SHEET], out: &[u32; LIST], kept: &[u32; KEPT]) -> Reply
+pub fn reply(links: Links, rows: &[u64; SHEET], out: &[u16; LIST], kept: &[u32; KEPT]) -> Reply
     ensures { λ r. ⌜ RepliesWith links (now (rows .entry)) (now (out .entry)) (now (kept .entry)) r ⌝ }
 {
     let board = board_of(kept);

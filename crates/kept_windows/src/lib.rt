@@ -77,7 +77,7 @@ fn still_holds(row: Row, done: u32) -> bool
 }
 
 // The first record in file order that holds a point shut, 0 for none.
-fn first_holder(rows: &[u64; SHEET], out: &[u32; LIST], done: u32, v: u8) -> u32
+fn first_holder(rows: &[u64; SHEET], out: &[u16; LIST], done: u32, v: u8) -> u32
     ensures { λ r. ⌜ r ≡ firstAt (shutAt (now (rows .entry)) done) (entriesOf (now (out .entry)) v) ⌝ }
 {
     let mut i = start(out, v as usize);
@@ -93,7 +93,7 @@ fn first_holder(rows: &[u64; SHEET], out: &[u32; LIST], done: u32, v: u8) -> u32
 }
 
 // The same, where nothing is read for a point that nothing holds.
-fn holder_at(rows: &[u64; SHEET], out: &[u32; LIST], kept: &[u32; KEPT], p: u8) -> u32
+fn holder_at(rows: &[u64; SHEET], out: &[u16; LIST], kept: &[u32; KEPT], p: u8) -> u32
     requires { ⌜ p < mostPoints ⌝ }
     ensures { λ r. ⌜ r ≡ holderAt (now (rows .entry)) (now (out .entry)) (now (kept .entry)) p ⌝ }
 {
@@ -106,7 +106,7 @@ fn holder_at(rows: &[u64; SHEET], out: &[u32; LIST], kept: &[u32; KEPT], p: u8) 
 // The windows of a plan of so many points, some of them watched, from the last point to the first.
 pub fn windows_of(
     rows: &[u64; SHEET],
-    out: &[u32; LIST],
+    out: &[u16; LIST],
     kept: &[u32; KEPT],
     points: u32,
     watched: u32,

@@ -82,9 +82,9 @@ fn lay(plan: Plan, rows: &mut [u64; SHEET])
 pub fn list(
     rows: &[u64; SHEET],
     count: usize,
-    into: &mut [u32; LIST],
-    out: &mut [u32; LIST],
-    ends: &mut [u32; LIST],
+    into: &mut [u16; LIST],
+    out: &mut [u16; LIST],
+    ends: &mut [u16; LIST],
     kept: &mut [u32; KEPT],
 )
     requires { ⌜ count ≤ mostRecords ⌝ }
@@ -103,9 +103,9 @@ pub fn list(
 fn fill(
     plan: Plan,
     rows: &mut [u64; SHEET],
-    into: &mut [u32; LIST],
-    out: &mut [u32; LIST],
-    ends: &mut [u32; LIST],
+    into: &mut [u16; LIST],
+    out: &mut [u16; LIST],
+    ends: &mut [u16; LIST],
     kept: &mut [u32; KEPT],
 )
     requires { ⌜ plan .count ≤ mostRecords ⌝ }
@@ -126,9 +126,9 @@ fn fill(
 pub fn begin(
     plan: Plan,
     rows: &mut [u64; SHEET],
-    into: &mut [u32; LIST],
-    out: &mut [u32; LIST],
-    ends: &mut [u32; LIST],
+    into: &mut [u16; LIST],
+    out: &mut [u16; LIST],
+    ends: &mut [u16; LIST],
     kept: &mut [u32; KEPT],
 ) -> Started
     ensures { λ s. ⌜ BeginsWith plan s (now (rows .entry)) (now (into .entry)) (now (out .entry)) (now (ends .entry)) (now (kept .entry)) (now (rows .exit)) (now (into .exit)) (now (out .exit)) (now (ends .exit)) (now (kept .exit)) ⌝ }

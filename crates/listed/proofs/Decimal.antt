@@ -19,29 +19,26 @@ use Rattle.phrases.specs.Phrases.{isBelow, valueOf}
 use Rattle.lines.specs.Text.{digits, decimal, pieceText}
 use Rattle.text.specs.Lines.{signedPiece}
 
-module _ (k : ℕ) where
-  all-digits : (n : ℕ) → allDigits (digits k n) ≡ true
-  all-digits = go k
-    where
-      go : (k n : ℕ) → allDigits (digits k n) ≡ true
-      unfolding digits allDigits
-      go zero n = refl
-      go (suc k) n = one (ltb n 10)
-        where
-          one : (t : Bool) → allDigits (cond t [] (digits k (n / 10)) ++ ((48 + n % 10) ∷ [])) ≡ true
-          one true = rw (digit-is n)
-          one false = digits-snoc (digits k (n / 10)) (48 + n % 10) ∙ rw (go k (n / 10), digit-is n)
+all-digits : (k n : ℕ) → allDigits (digits k n) ≡ true
+unfolding digits allDigits
+all-digits zero n = refl
+all-digits (suc k) n = one (ltb n 10) (all-digits k (n / 10))
+  where
+    one : (t : Bool) → allDigits (digits k (n / 10)) ≡ true → allDigits (cond t [] (digits k (n / 10)) ++ ((48 + n % 10) ∷ [])) ≡ true
+    one true e = rw (digit-is n)
+    one false e = digits-snoc (digits k (n / 10)) (48 + n % 10) ∙ rw (e, digit-is n)
 
 value : (k n : ℕ) → n < 10 ^ k → valueFrom 0 (digits k n) ≡ n
 unfolding digits valueFrom
 value zero n h = omega arith
-value (suc k) n h = one (ltb n 10) refl
+value (suc k) n h = one (ltb n 10) refl (value k (n / 10) (omega arith))
   where
-    one : (t : Bool) → ltb n 10 ≡ t → valueFrom 0 (cond t [] (digits k (n / 10)) ++ ((48 + n % 10) ∷ [])) ≡ n
-    one true e = omega (arith, ltb-true n 10 e)
-    one false e =
-        let l : n / 10 < 10 ^ k = omega arith in
-        value-snoc 0 (digits k (n / 10)) (48 + n % 10) ∙ rw (value k (n / 10) l) (omega arith)
+    one : (t : Bool) → ltb n 10 ≡ t → valueFrom 0 (digits k (n / 10)) ≡ n / 10 → valueFrom 0 (cond t [] (digits k (n / 10)) ++ ((48 + n % 10) ∷ [])) ≡ n
+    one true e v = omega (arith, ltb-true n 10 e)
+    one false e v = value-snoc 0 (digits k (n / 10)) (48 + n % 10) ∙ rw v (omega arith)
+
+some-last : (f : List ℕ) (c : ℕ) → isEmpty (f ++ (c ∷ [])) ≡ false
+some-last f c = ne-eqb (length (f ++ (c ∷ []))) 0 (λ (e : length (f ++ (c ∷ [])) ≡ 0). omega (arith, length-append f (c ∷ []), e))
 
 module _ (n : ℕ) where
   pub decimal-digits : allDigits (decimal n) ≡ true
@@ -49,7 +46,7 @@ module _ (n : ℕ) where
 
   pub decimal-some : isEmpty (decimal n) ≡ false
   unfolding digits
-  decimal-some = ne-eqb _ 0 (λ e. let l = length-append (cond (ltb n 10) [] (digits 19 (n / 10))) ((48 + n % 10) ∷ []) in omega arith)
+  decimal-some = some-last (cond (ltb n 10) [] (digits 19 (n / 10))) (48 + n % 10)
 
   module _ (h : n < 2 ^ 32) where
     decimal-value : valueFrom 0 (decimal n) ≡ n
@@ -68,11 +65,11 @@ signed-number (negsuc n) h =
 -- ---- bytes that part nothing
 
 -- a minus, a digit or a letter
-pub Solid : ℕ → Type 0
+abbrev pub Solid : ℕ → Type 0
 Solid c = 45 ≤ c
 
 digits-solid : (f : List ℕ) → allDigits f ≡ true → All Solid f
-unfolding allDigits Solid
+unfolding allDigits
 digits-solid [] e = tt
 digits-solid (c ∷ f) e =
     let b = both (isDigit c) (allDigits f) e in
@@ -83,10 +80,9 @@ pub decimal-solid : (n : ℕ) → All Solid (decimal n)
 decimal-solid n = digits-solid (decimal n) (decimal-digits n)
 
 pub signed-solid : (z : ℤ) → All Solid (pieceText (signedPiece z))
-unfolding Solid
 signed-solid (pos n) = decimal-solid n
 signed-solid (negsuc n) = (omega arith, decimal-solid (n + 1))
 
 pub signed-some : (z : ℤ) → isEmpty (pieceText (signedPiece z)) ≡ false
 signed-some (pos n) = decimal-some n
-signed-some (negsuc n) = ne-eqb _ 0 (λ e. omega arith)
+signed-some (negsuc n) = ne-eqb (length (45 ∷ decimal (n + 1))) 0 (λ e. omega arith)

@@ -1,10 +1,9 @@
 -- The listing of a plan file packs to the same bytes. Assumes nothing.
 use mathlib.Core.Path.{_≡_, refl, sym, ap, _∙_}
-use mathlib.Core.List.{List, [], _∷_, _++_, map}
+use mathlib.Core.List.{List, [], _∷_, _++_, map, append-assoc}
 use Prim.Native.Nat.{ℕ, suc, _*_, _≤_}
 use native.Mathlib.Omega.{arith}
 use lib.ListN.{length, drop, length-map}
-use lib.Seq.{append-assoc}
 use borrow.Author.Tests.{le-ltb}
 use Rattle.numbers.specs.Fits.{All, IsByte}
 use Rattle.records.specs.Records as records

@@ -2,10 +2,11 @@
 use mathlib.Core.Path.{_≡_, refl, sym, ap, _∙_}
 use mathlib.Core.Bool.{Bool, true, false, not, _&&_}
 use mathlib.Core.List.{List, [], _∷_, map}
-use Prim.Native.Nat.{ℕ, suc, _<_}
+use Prim.Native.Nat.{ℕ, _^_, _<_}
 use native.Mathlib.Omega.{arith}
 use lib.Dec.{eqb}
 use lib.IntN.{ℤ, pos, negsuc}
+use lib.Signed.{mag}
 use borrow.Author.Tests.{eqb-true, ne-eqb}
 use Rattle.numbers.specs.Choice.{if_then_else_}
 use Rattle.numbers.specs.Numbers.{isNought}
@@ -93,7 +94,7 @@ nought (negsuc n) e = absurd (let y : _≡_ {A = ℕ} 0 1 = cc in omega arith)
 
 module _ (r : Record) (h : Held r) where
   point-line : r .kind ≡ 1 → zeros point r 0 ≡ true → Line r
-  unfolding spelled Solid rowOf expected firstWrong saidBy
+  unfolding spelled rowOf expected firstWrong saidBy
   point-line k e =
       let x = both (eqb (r .b) 0) _ e in
       let y = both (isNought (r .first)) _ (x .1) in
@@ -110,7 +111,7 @@ module _ (r : Record) (h : Held r) where
       }
 
   link-line : r .kind ≡ 2 → zeros link r 0 ≡ true → Line r
-  unfolding spelled Solid rowOf expected firstWrong saidBy
+  unfolding spelled rowOf expected firstWrong saidBy
   link-line k e =
       let x = both (eqb (r .code) 0) _ e in
       let is : linkRecord (r .a) (r .first) (r .second) (r .b) ≡ r =
@@ -134,7 +135,7 @@ module _ (r : Record) (h : Held r) where
       (nought (r .second) (x .0), eqb-true (r .code) 0 (y .0))
 
   ordinary-line : r .kind ≡ 3 → zeros ordinary r 0 ≡ true → Line r
-  unfolding spelled Solid rowOf expected firstWrong saidBy
+  unfolding spelled rowOf expected firstWrong saidBy
   ordinary-line k e =
       let z = rest e in
       let is : ordinaryRecord (r .a) (r .first) (r .b) ≡ r =
@@ -151,7 +152,7 @@ module _ (r : Record) (h : Held r) where
       }
 
   wait-line : r .kind ≡ 4 → zeros wait r 0 ≡ true → Line r
-  unfolding spelled Solid rowOf expected firstWrong saidBy
+  unfolding spelled rowOf expected firstWrong saidBy
   wait-line k e =
       let z = rest e in
       let is : waitRecord (r .a) (r .b) (r .first) ≡ r =

@@ -5,7 +5,6 @@ use mathlib.Core.List.{List, [], _∷_, _++_, map, append-nil}
 use Prim.Native.Nat.{ℕ, _≤_}
 use native.Mathlib.Omega.{arith}
 use lib.Dec.{eqb}
-use lib.Seq.{append-assoc}
 use borrow.Author.Tests.{ne-eqb}
 use Rattle.numbers.specs.Choice.{if_then_else_}
 use Rattle.numbers.specs.Fits.{All}
@@ -23,12 +22,11 @@ pub record Typed (p : Piece) : Type 0 where
 -- ---- words
 
 uncomment : (f t : List ℕ) → All Solid f → uncommented (f ++ t) ≡ f ++ uncommented t
-unfolding uncommented Solid
+unfolding uncommented
 uncomment [] t a = refl
 uncomment (c ∷ f) t a = rw (ne-eqb c 35 (λ e. omega (arith, a .0)), uncomment f t (a .1))
 
 no-blank : (c : ℕ) → Solid c → isBlank c ≡ false
-unfolding Solid
 no-blank c h = rw (ne-eqb c 32 (λ e. omega arith), ne-eqb c 9 (λ e. omega arith))
 
 cut-last : (f : List ℕ) → All Solid f → cut isBlank f ≡ f ∷ []
@@ -53,16 +51,15 @@ words-typed p (q ∷ ps) t a =
 -- ---- lines
 
 -- bytes that end no line
-pub Unbroken : ℕ → Type 0
+abbrev pub Unbroken : ℕ → Type 0
 Unbroken c = (c ≡ 13 → ⊥) × (c ≡ 10 → ⊥)
 
 solid-unbroken : (f t : List ℕ) → All Solid f → All Unbroken t → All Unbroken (f ++ t)
-unfolding Solid Unbroken
 solid-unbroken [] t a b = b
 solid-unbroken (c ∷ f) t a b = ((λ e. omega (arith, a .0), λ e. omega (arith, a .0)), solid-unbroken f t (a .1) b)
 
 more-unbroken : (ps : List Piece) → All Typed ps → All Unbroken (moreText ps)
-unfolding moreText Unbroken
+unfolding moreText
 more-unbroken [] a = tt
 more-unbroken (p ∷ ps) a =
     ((λ e. omega arith, λ e. omega arith), solid-unbroken (pieceText p) (moreText ps) (a .0 .solid) (more-unbroken ps (a .1)))
@@ -71,12 +68,12 @@ pub line-unbroken : (p : Piece) (ps : List Piece) → Typed p → All Typed ps �
 line-unbroken p ps t a = solid-unbroken (pieceText p) (moreText ps) (t .solid) (more-unbroken ps a)
 
 without : (l s : List ℕ) → All Unbroken l → withoutCrs (l ++ 10 ∷ s) ≡ l ++ 10 ∷ withoutCrs s
-unfolding withoutCrs Unbroken
+unfolding withoutCrs
 without [] s a = refl
 without (c ∷ l) s a = rw (ne-eqb c 13 (a .0 .0), without l s (a .1))
 
 cut-line : (l s : List ℕ) → All Unbroken l → cut isLf (l ++ 10 ∷ s) ≡ l ∷ cut isLf s
-unfolding cut Unbroken
+unfolding cut
 cut-line [] s a = refl
 cut-line (c ∷ l) s a = rw (ne-eqb c 10 (a .0 .1), cut-line l s (a .1))
 

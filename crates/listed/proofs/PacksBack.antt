@@ -41,8 +41,8 @@ rows-said (r ∷ rs) a n =
     let f = pieceText (l .first) in
     let m = moreText (l .more) in
     let t : linesOf (recordText r ++ listingOf rs) ≡ (f ++ m) ∷ linesOf (listingOf rs) =
-        ap (λ (t : List ℕ). linesOf (t ++ listingOf rs)) (l .text) ∙ ap linesOf (ended f m (listingOf rs))
-        ∙ line-first (f ++ m) (listingOf rs) (line-unbroken (l .first) (l .more) (l .typed) (l .each)) in
+    ap (λ (t : List ℕ). linesOf (t ++ listingOf rs)) (l .text) ∙ ap linesOf (ended f m (listingOf rs))
+    ∙ line-first (f ++ m) (listingOf rs) (line-unbroken (l .first) (l .more) (l .typed) (l .each)) in
     let w : lineRow (f ++ m) ≡ good (Plan r) = ap rowOf (words-typed (l .first) (l .more) (l .typed) (l .each)) ∙ l .row in
     ap (outcome n) t ∙ rw (w, rows-said rs (a .1) (suc n))
 

@@ -100,7 +100,7 @@ module _ (r : Record) (h : Held r) where
       let y = both (isNought (r .first)) _ (x .1) in
       let z = both (isNought (r .second)) _ (y .1) in
       let is : pointRecord (r .a) (r .code) ≡ r =
-          λ i. record { kind = sym k i; a = r .a; b = sym (eqb-true (r .b) 0 (x .0)) i; first = sym (nought (r .first) (y .0)) i; second = sym (nought (r .second) (z .0)) i; code = r .code } in
+      λ i. record { kind = sym k i; a = r .a; b = sym (eqb-true (r .b) 0 (x .0)) i; first = sym (nought (r .first) (y .0)) i; second = sym (nought (r .second) (z .0)) i; code = r .code } in
       record {
         first = Name pointWord;
         more = Number (r .a) ∷ Number (r .code) ∷ [];
@@ -115,7 +115,7 @@ module _ (r : Record) (h : Held r) where
   link-line k e =
       let x = both (eqb (r .code) 0) _ e in
       let is : linkRecord (r .a) (r .first) (r .second) (r .b) ≡ r =
-          λ i. record { kind = sym k i; a = r .a; b = r .b; first = r .first; second = r .second; code = sym (eqb-true (r .code) 0 (x .0)) i } in
+      λ i. record { kind = sym k i; a = r .a; b = r .b; first = r .first; second = r .second; code = sym (eqb-true (r .code) 0 (x .0)) i } in
       record {
         first = Name linkWord;
         more = Number (r .a) ∷ signedPiece (r .first) ∷ signedPiece (r .second) ∷ Number (r .b) ∷ [];
@@ -139,7 +139,7 @@ module _ (r : Record) (h : Held r) where
   ordinary-line k e =
       let z = rest e in
       let is : ordinaryRecord (r .a) (r .first) (r .b) ≡ r =
-          λ i. record { kind = sym k i; a = r .a; b = r .b; first = r .first; second = sym (z .0) i; code = sym (z .1) i } in
+      λ i. record { kind = sym k i; a = r .a; b = r .b; first = r .first; second = sym (z .0) i; code = sym (z .1) i } in
       record {
         first = Name ordinaryWord;
         more = Number (r .a) ∷ signedPiece (r .first) ∷ Number (r .b) ∷ [];
@@ -156,7 +156,7 @@ module _ (r : Record) (h : Held r) where
   wait-line k e =
       let z = rest e in
       let is : waitRecord (r .a) (r .b) (r .first) ≡ r =
-          λ i. record { kind = sym k i; a = r .a; b = r .b; first = r .first; second = sym (z .0) i; code = sym (z .1) i } in
+      λ i. record { kind = sym k i; a = r .a; b = r .b; first = r .first; second = sym (z .0) i; code = sym (z .1) i } in
       record {
         first = Name waitWord;
         more = Number (r .a) ∷ Number (r .b) ∷ signedPiece (r .first) ∷ [];

@@ -4,7 +4,7 @@
 pub mod Nets
 pub mod Runs
 pub mod Plays
-pub mod Demand3
+pub mod DemandThree
 pub mod GoodSheets
 pub mod Chains
 pub mod Calls

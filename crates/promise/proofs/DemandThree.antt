@@ -1,6 +1,6 @@
--- Demand 3 holds: each statement of specs/Demand3, by the theorem that proves it. Assumes nothing.
+-- Demand 3 holds: each statement of specs/DemandThree, by the theorem that proves it. Assumes nothing.
 use Rattle.vee.proofs.Yes.{yes-exactly, yes-passes}
-use Rattle.promise.specs.Demand3.{AlwaysPromised, NothingRefused, AlwaysOn, AlwaysFinishes, YesExactly, YesPasses}
+use Rattle.promise.specs.DemandThree.{AlwaysPromised, NothingRefused, AlwaysOn, AlwaysFinishes, YesExactly, YesPasses}
 use Rattle.promise.proofs.Executor.{executor}
 use Rattle.promise.proofs.Play as Play
 use Rattle.promise.proofs.TestYes.{yes-accepted}

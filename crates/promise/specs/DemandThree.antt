@@ -1,4 +1,4 @@
--- Demand 3 as it is promised: each statement is a type, its hypotheses beside it, and `Demand3` in proofs/ proves each. A reader who wants to
+-- Demand 3 as it is promised: each statement is a type, its hypotheses beside it, and `DemandThree` in proofs/ proves each. A reader who wants to
 -- know what is promised needs this page and those that it cites. Definitions only. Assumes nothing.
 use mathlib.Core.Path.{_≡_}
 use mathlib.Core.Logic.{_⊎_}

@@ -23,6 +23,7 @@ pub mod GoodSheets
 pub mod LetThrough
 pub mod Keeping
 pub mod TestYes
+pub mod DemandThree
 pub mod Haul
 pub mod Ends
 pub mod Untied

@@ -119,6 +119,12 @@ module _ (p : Plan) (ok : checkOf p .number ≡ 0) where
       neither true y e = (refl, e)
       neither false y e = clash e
 
+  -- A foreman may take the latest minute as well.
+  pub unhurried : Foreman p
+  unhurried k b o =
+      let c = earliest k b o in
+      record { point = c .point; minute = latest rs b; low = c .low; offered = c .offered; window = (omega (arith, c .window), omega arith) }
+
   -- Every accepted plan has players.
   pub some-players : Players p
   some-players = record { haulage = fixed (λ C. longest (linkTo rs C)) longest-in-bounds; foreman = earliest }

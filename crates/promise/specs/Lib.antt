@@ -4,6 +4,7 @@
 pub mod Nets
 pub mod Runs
 pub mod Plays
+pub mod DemandThree
 pub mod GoodSheets
 pub mod Chains
 pub mod Calls

@@ -28,7 +28,11 @@ module _ (x : Row) (t far r : ℕ) where
 pub freed-by : (x : Row) (t : ℕ) (kept : List ℕ) (v one-off holds by low runs run : ℕ) → v ≡ heldBy x → one-off ≡ one (holding x) → holds ≡ getD kept v 0 - one-off
     → by ≡ lowBy x t → low ≡ max (getD kept (lowsAt + v) 0) by → runs ≡ runBy x t → run ≡ max (getD kept (runsAt + v) 0) runs
     → set (set (set kept v holds) (lowsAt + v) low) (runsAt + v) run ≡ freed x t kept
-freed-by x t kept v one-off holds by low runs run p a b c d e f = rw (f, e, d, c, b, a, p)
+freed-by x t kept v one-off holds by low runs run p a b c d e f =
+    let h : holds ≡ getD kept (heldBy x) 0 - one (holding x) = rw (p, a) at b in
+    let l : low ≡ max (getD kept (lowsAt + heldBy x) 0) (lowBy x t) = rw (p, c) at d in
+    let r : run ≡ max (getD kept (runsAt + heldBy x) 0) (runBy x t) = rw (p, e) at f in
+    λ i. set (set (set kept (p i) (h i)) (lowsAt + p i) (l i)) (runsAt + p i) (r i)
 
 -- a wait that may run
 pub running-by : (x : Row) (kept : List ℕ) (a c : ℕ) (started ended : Bool) (end r : ℕ) → a ≡ untilBy x → started ≡ member (getD kept doneAt 0) a → c ≡ overBy x

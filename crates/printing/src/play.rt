@@ -45,11 +45,16 @@ struct Said {
     out: Out,
 }
 
-// An event: one line, or, in full, its reply number and the record beside it, and what the board is then.
-fn event(
+// What is printed of a plan: whether in full, its links, and the pond of each point.
+struct Told {
     full: bool,
     links: Links,
     ponds: [u32; ROOM],
+}
+
+// An event: one line, or, in full, its reply number and the record beside it, and what the board is then.
+fn event(
+    told: Told,
     rows: &[u64; SHEET],
     into: &[u16; LIST],
     from: &[u16; LIST],
@@ -60,11 +65,13 @@ fn event(
     lines: &mut [u8],
     out: Out,
 ) -> Out {
+    let links = told.links;
     let found = engine::take(links, rows, into, from, ends, &mut *kept, bytes);
-    if !full {
+    if !told.full {
         return put(lines, out, kept_line(&*kept, k, found.number));
     }
     let now = put(lines, out, text::reply_line(k, found.number, found.place));
+    let ponds = told.ponds;
     shown(links, ponds, rows, from, &*kept, lines, now)
 }
 
@@ -77,9 +84,7 @@ fn whole(playing: bool, at: usize) -> usize
 
 // The whole records of the chunk that are not answered yet.
 fn events(
-    full: bool,
-    links: Links,
-    ponds: [u32; ROOM],
+    told: Told,
     rows: &[u64; SHEET],
     into: &[u16; LIST],
     from: &[u16; LIST],
@@ -96,12 +101,9 @@ fn events(
     let mut out = before.out;
     let mut next = before.past;
     while next < n {
-        let at = RECORD * next;
-        let bytes = &chunk[at..at + RECORD];
+        let bytes = &chunk[RECORD * next..RECORD * next + RECORD];
         out = event(
-            full,
-            links,
-            ponds,
+            told,
             rows,
             into,
             from,
@@ -134,9 +136,7 @@ fn read_more(more: bool, chunk: &mut [u8], at: usize) -> usize
 
 // What has come is answered and the lines are written; then one read.
 fn turn(
-    full: bool,
-    links: Links,
-    ponds: [u32; ROOM],
+    told: Told,
     rows: &[u64; SHEET],
     into: &[u16; LIST],
     from: &[u16; LIST],
@@ -150,9 +150,7 @@ fn turn(
     ensures { λ w. ⌜ w .at ≤ length (now (chunk .exit)) ⌝ }
 {
     let said = events(
-        full,
-        links,
-        ponds,
+        told,
         rows,
         into,
         from,
@@ -177,9 +175,7 @@ fn turn(
 
 // All events, to the end of the input.
 fn play_on(
-    full: bool,
-    links: Links,
-    ponds: [u32; ROOM],
+    told: Told,
     rows: &[u64; SHEET],
     into: &[u16; LIST],
     from: &[u16; LIST],
@@ -194,19 +190,7 @@ fn play_on(
     let mut now = first;
     let mut turns = u64::MAX;
     while turns > 0 {
-        now = turn(
-            full,
-            links,
-            ponds,
-            rows,
-            into,
-            from,
-            ends,
-            &mut *kept,
-            now,
-            chunk,
-            lines,
-        );
+        now = turn(told, rows, into, from, ends, &mut *kept, now, chunk, lines);
         if !now.more {
             return now;
         }
@@ -217,9 +201,7 @@ fn play_on(
 
 // In full, what the board is before all events.
 fn opened(
-    full: bool,
-    links: Links,
-    ponds: [u32; ROOM],
+    told: Told,
     rows: &[u64; SHEET],
     from: &[u16; LIST],
     kept: &[u32; KEPT],
@@ -228,12 +210,22 @@ fn opened(
 ) -> Went
     ensures { λ w. ⌜ w .at ≡ first .at ⌝ }
 {
-    if !(full & first.playing) {
+    if !(told.full & first.playing) {
         return first;
     }
+    let links = told.links;
+    let ponds = told.ponds;
     let mut now = first;
     now.out = shown(links, ponds, rows, from, kept, lines, first.out);
     now
+}
+
+fn to_tell(full: bool, links: Links, ponds: [u32; ROOM]) -> Told {
+    Told {
+        full: full,
+        links: links,
+        ponds: ponds,
+    }
 }
 
 // Fills the rooms and plays the plan to the end of the input.
@@ -253,12 +245,10 @@ pub(crate) fn play(
     let mut kept = [0u32; KEPT];
     let started = engine::begin(plan, &mut rows, &mut into, &mut from, &mut ends, &mut kept);
     let links = started.links;
-    let ponds = ponds_of(plan);
-    let open = opened(full, links, ponds, &rows, &from, &kept, first, lines);
+    let told = to_tell(full, links, ponds_of(plan));
+    let open = opened(told, &rows, &from, &kept, first, lines);
     let went = play_on(
-        full,
-        links,
-        ponds,
+        told,
         &rows,
         &into,
         &from,
@@ -268,10 +258,9 @@ pub(crate) fn play(
         chunk,
         lines,
     );
-    let board = engine::board_of(&kept);
     let out = went.out;
     Played {
-        board: board,
+        board: engine::board_of(&kept),
         at: went.at,
         out: out,
     }

@@ -8,11 +8,11 @@ use Rattle.printing.proofs.play.events.Statement.{statement}
 use Rattle.printing.proofs.play.events.Tie as tie
 
 abbrev Inv-loop : tie.InvT-loop
-Inv-loop full links ponds rows into from ends kept₀ chunk lines₀ n k₀ out₀ next₀ kept lines k out next =
+Inv-loop told rows into from ends kept₀ chunk lines₀ n k₀ out₀ next₀ kept lines k out next =
     (recordBytes * n ≤ length chunk) × (length chunk < 2 ^ 63) × (length lines ≡ length lines₀)
 
 abbrev μ-loop : tie.MeasureT-loop
-μ-loop full links ponds rows into from ends kept₀ chunk lines₀ n k₀ out₀ next₀ kept lines k out next =
+μ-loop told rows into from ends kept₀ chunk lines₀ n k₀ out₀ next₀ kept lines k out next =
     n - next
 
 whole-requires : tie.Need-whole-requires Inv-loop μ-loop
@@ -21,8 +21,11 @@ whole-requires c κs = search needs
 loop-holds : tie.Need-loop-holds Inv-loop μ-loop
 loop-holds c = search needs
 
-mul-at : tie.Need-mul-at Inv-loop μ-loop
-mul-at c = search needs
+mul-bytes : tie.Need-mul-bytes Inv-loop μ-loop
+mul-bytes c = search needs
+
+mul-bytes-2 : tie.Need-mul-bytes-2 Inv-loop μ-loop
+mul-bytes-2 c = search needs
 
 add-bytes : tie.Need-add-bytes Inv-loop μ-loop
 add-bytes c = search needs
@@ -65,7 +68,8 @@ events-spec =
     μ-loop
     whole-requires
     loop-holds
-    mul-at
+    mul-bytes
+    mul-bytes-2
     add-bytes
     sub-bytes
     part-bytes-start

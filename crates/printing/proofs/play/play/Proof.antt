@@ -10,11 +10,14 @@ begin-requires c κs = search needs
 ponds-of-requires : tie.Need-ponds-of-requires
 ponds-of-requires c κs = search needs
 
+to-tell-requires : tie.Need-to-tell-requires
+to-tell-requires c κs = search needs
+
 opened-requires : tie.Need-opened-requires
 opened-requires c κs = search needs
 
 play-on-requires : tie.Need-play-on-requires
-play-on-requires c κs = omega (arith, c .before .before .before .before .before .before .before .before .before .opened .ensures, c .before .before .before .before .before .before .before .before .before .before .before .before .before .before .before .before .before .before .before .before .before .before .before .before .pre)
+play-on-requires c κs = omega (arith, c .before .before .before .before .before .before .before .before .before .opened .ensures, c .before .before .before .before .before .before .before .before .before .before .before .before .before .before .before .before .before .before .before .before .before .before .before .before .before .pre)
 
 board-of-requires : tie.Need-board-of-requires
 board-of-requires c κs = search needs
@@ -34,6 +37,7 @@ play-spec =
     (tie.spec
     begin-requires
     ponds-of-requires
+    to-tell-requires
     opened-requires
     play-on-requires
     board-of-requires

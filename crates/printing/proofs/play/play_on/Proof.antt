@@ -7,11 +7,11 @@ use Rattle.printing.proofs.play.play_on.Statement.{statement}
 use Rattle.printing.proofs.play.play_on.Tie as tie
 
 abbrev Inv-loop : tie.InvT-loop
-Inv-loop full links ponds rows into from ends kept₀ chunk₀ lines₀ now₀ turns₀ kept chunk lines now turns =
+Inv-loop told rows into from ends kept₀ chunk₀ lines₀ now₀ turns₀ kept chunk lines now turns =
     (now .at ≤ length chunk) × (length chunk ≡ length chunk₀) × (length lines ≡ length lines₀)
 
 abbrev μ-loop : tie.MeasureT-loop
-μ-loop full links ponds rows into from ends kept₀ chunk₀ lines₀ now₀ turns₀ kept chunk lines now turns =
+μ-loop told rows into from ends kept₀ chunk₀ lines₀ now₀ turns₀ kept chunk lines now turns =
     turns
 
 loop-holds : tie.Need-loop-holds Inv-loop μ-loop

@@ -122,10 +122,14 @@ impl Bench {
             }
             times = (f64::from(times) * (SECONDS / seconds.max(1e-3)).clamp(1.5, 20.0)) as u32;
         }
-        machine.input(&ask(0))?;
-        let empty = empty(&machine, &sides)?;
+        machine.input_without(&ask(0))?;
         machine.input(&ask(times))?;
-        line(&machine, &sides, title(what, size), empty, f64::from(times), RUNS)
+        let timing = Timing {
+            without: Some(&sides),
+            times: f64::from(times),
+            runs: RUNS,
+        };
+        line(&machine, &sides, title(what, size), timing)
     }
 
     /// The plan test, asked once; what the same requests without it take is taken off.
@@ -133,10 +137,9 @@ impl Bench {
         let sides = self.sides(&self.probe, "", plain);
         let machine = Machine::new();
         let desk = desk(&inputs::plan(size), TEST);
-        machine.input(&desk)?;
-        let empty = empty(&machine, &sides)?;
+        machine.input_without(&desk)?;
         machine.input(&[desk, request(TEST, 0)].concat())?;
-        line(&machine, &sides, title(what, size), empty, 1.0, RUNS)
+        line(&machine, &sides, title(what, size), less(&sides))
     }
 
     /// A million events through the printing program, refused after every window was looked at.
@@ -150,23 +153,25 @@ impl Bench {
         let mut input = sheet_of(&plan, &run.events[..at]);
         input.extend(inputs::refused(&plan, &run.boards[at]).repeat(EVENTS - at));
         machine.input(&input)?;
-        line(&machine, &sides, title(what, size), [0.0; 2], 1.0, RUNS)
+        line(&machine, &sides, title(what, size), whole(RUNS))
     }
 
     /// The whole verb `desk worst` against both plain ways, and the runs alone, without the test before them.
     pub fn worst(&self, what: &str, size: Size) -> io::Result<()> {
         let machine = Machine::new();
-        machine.input(&inputs::plan(size).to_bytes())?;
-        let tests = empty(&machine, &self.sides(&self.desk, "test", "test"))?;
+        let file = inputs::plan(size).to_bytes();
+        machine.input(&file)?;
+        machine.input_without(&file)?;
+        let tests = self.sides(&self.desk, "test", "test");
         for (way, plain) in [
             ("kept counts", "worst-counts"),
             ("all records read again", "worst"),
         ] {
             let sides = self.sides(&self.desk, "worst", plain);
-            let whole = format!("{what}, against {way}");
-            line(&machine, &sides, title(&whole, size), [0.0; 2], 1.0, RUNS)?;
+            let all = format!("{what}, against {way}");
+            line(&machine, &sides, title(&all, size), whole(RUNS))?;
             let runs = format!("{what}, its runs alone, against {way}");
-            line(&machine, &sides, title(&runs, size), tests, 1.0, RUNS)?;
+            line(&machine, &sides, title(&runs, size), less(&tests))?;
         }
         Ok(())
     }
@@ -176,7 +181,7 @@ impl Bench {
         let sides = self.sides(&self.desk, "lighter", "lighter");
         let machine = Machine::new();
         machine.input(&inputs::plan(size).to_bytes())?;
-        line(&machine, &sides, title("a lighter plan", size), [0.0; 2], 1.0, runs)
+        line(&machine, &sides, title("a lighter plan", size), whole(runs))
     }
 
     /// A text imported by the whole program.
@@ -184,7 +189,7 @@ impl Bench {
         let sides = self.sides(&self.desk, "import", "import");
         let machine = Machine::new();
         machine.input(text)?;
-        line(&machine, &sides, title(what, LARGEST), [0.0; 2], 1.0, RUNS)
+        line(&machine, &sides, title(what, LARGEST), whole(RUNS))
     }
 
     /// A call through C, on a plan of this size and a run of it.
@@ -250,31 +255,43 @@ impl Bench {
     }
 }
 
-/// What each side takes for the input that is there.
-fn empty(machine: &Machine, sides: &Sides) -> io::Result<[f64; 2]> {
-    let mut empty = [0.0, 0.0];
-    for (side, words) in [&sides.ours, &sides.plain].into_iter().enumerate() {
-        let runs = (0..RUNS).map(|_| Ok(machine.run(words, false)?.1));
-        empty[side] = spread(runs.collect::<io::Result<Vec<f64>>>()?)[0];
-    }
-    Ok(empty)
-}
-
-/// Measures both sides in turn on the input that is there, and prints the line. `empty` is what each side takes for the
-/// same input without the call, `times` how often the call is made.
-fn line(
-    machine: &Machine,
-    sides: &Sides,
-    title: Title,
-    empty: [f64; 2],
+/// How a line is timed: what is taken off, from the programs that do all but what is timed, how often a run makes the call, and how
+/// many runs there are.
+struct Timing<'a> {
+    without: Option<&'a Sides>,
     times: f64,
     runs: usize,
-) -> io::Result<()> {
+}
+
+/// A whole program.
+fn whole(runs: usize) -> Timing<'static> {
+    Timing {
+        without: None,
+        times: 1.0,
+        runs,
+    }
+}
+
+/// A program less what these do.
+fn less(without: &Sides) -> Timing<'_> {
+    Timing {
+        without: Some(without),
+        times: 1.0,
+        runs: RUNS,
+    }
+}
+
+/// Measures both sides in turn on the input that is there, and prints the line.
+fn line(machine: &Machine, sides: &Sides, title: Title, timing: Timing) -> io::Result<()> {
     let same = machine.run(&sides.ours, true)?.0 == machine.run(&sides.plain, true)?.0;
     let mut seconds = [Vec::new(), Vec::new()];
-    for _ in 0..runs {
-        seconds[0].push((machine.run(&sides.ours, false)?.1 - empty[0]) / times);
-        seconds[1].push((machine.run(&sides.plain, false)?.1 - empty[1]) / times);
+    for _ in 0..timing.runs {
+        for (side, words) in [&sides.ours, &sides.plain].into_iter().enumerate() {
+            let less = timing.without.map(|less| [&less.ours, &less.plain][side]);
+            let less = less.map_or(Ok(0.0), |words| machine.run_without(words))?;
+            let taken = machine.run(words, false)?.1;
+            seconds[side].push((taken - less) / timing.times);
+        }
     }
     print(title, seconds, same);
     Ok(())

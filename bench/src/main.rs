@@ -7,7 +7,7 @@ mod lines;
 mod measure;
 
 use inputs::{Size, FULL, LARGEST};
-use lines::{Bench, REPLY, READ, TAKE, VERDICT};
+use lines::{Bench, READ, REPLY, TAKE, VERDICT};
 use measure::Words;
 use std::io;
 use std::process::ExitCode;
@@ -128,6 +128,7 @@ fn test(bench: &Bench) -> io::Result<()> {
     let sizes = [LARGEST, FULL].into_iter().chain(by_projections);
     for size in sizes.chain(BY_POINTS).chain([TYPICAL]) {
         bench.test("the plan test, against two tables", size, "probe-two")?;
+        bench.test("the plan test, against one round", size, "probe-once")?;
         bench.test("the plan test, against three tables", size, "probe")?;
     }
     Ok(())

@@ -25,6 +25,7 @@ static u32 our_links[PONDS_LINKS], our_kept[PONDS_KEPT], our_reply[PONDS_REPLY],
 static u64 our_rows[PONDS_ROWS];
 static u16 our_into[PONDS_LIST], our_out[PONDS_LIST], our_ends[PONDS_LIST];
 static u32 before_kept[PONDS_KEPT];
+static u32 told[PONDS_BOARD];
 static u8 our_text[PONDS_MOST_FILE], plain_text[PONDS_MOST_FILE];
 
 // Plain.
@@ -52,6 +53,7 @@ static u64 our_event(void) {
     return our_take(events + RECORD * (event_count - 1));
 }
 static u64 our_replied(void) { return ponds_reply(our_links, our_rows, our_out, our_kept, our_reply); }
+static u64 our_told(void) { return ponds_board(our_kept, told); }
 static u64 our_judged(void) { return ponds_verdict(input, file_length, our_kept, our_verdict); }
 static u64 our_calendar(void) {
     return ponds_calendar(input, file_length, our_kept, ORIGIN.year, ORIGIN.month, ORIGIN.day, ORIGIN.hour, ORIGIN.minute,
@@ -80,6 +82,12 @@ static u64 again_event(void) {
 }
 static u64 plain_replied(void) { return reply_kept(&the_engine, &the_kept, &the_board, &the_reply), 0; }
 static u64 again_replied(void) { return reply_of(&the_plan, &the_board, &the_reply), 0; }
+static u64 plain_told(void) {
+    told[0] = the_board.clock, told[1] = the_board.done;
+    memcpy(told + 2, the_board.minutes, sizeof the_board.minutes);
+    memcpy(told + 2 + POINTS, the_board.calls, sizeof the_board.calls);
+    return 0;
+}
 static u64 plain_judged(void) {
     refusal found = read_plan(input, file_length, &the_plan);
     if (found.number == 0) found = verdict_of(&the_plan, &the_board);
@@ -124,6 +132,7 @@ static const struct { const char *name; u64 (*ours)(void), (*plain)(void); bool 
     {"event-plain", our_event, again_event, same_board},
     {"reply", our_replied, plain_replied, same_reply},
     {"reply-plain", our_replied, again_replied, same_reply},
+    {"board", our_told, plain_told, same_board},
     {"verdict", our_judged, plain_judged, same_board},
     {"calendar", our_calendar, plain_calendar, same_text},
     {"import", our_import, plain_import, same_text},

@@ -161,7 +161,7 @@ fn lighter(bench: &Bench) -> io::Result<()> {
     for size in [TYPICAL, half] {
         bench.lighter(size, 7)?;
     }
-    for projections in [256, 1_024, 4_096] {
+    for projections in [256] {
         let size = Size {
             projections,
             ..LARGEST
@@ -213,9 +213,9 @@ fn through(bench: &Bench) -> io::Result<()> {
         ("reading through C", "check"),
         ("a verdict through C", "verdict"),
     ] {
-        for size in [LARGEST, of_points(32, 4, 1)] {
+        for size in [LARGEST, FULL, of_points(32, 4, 1)] {
             bench.through(what, size, kind)?;
         }
     }
-    Ok(())
+    bench.through("a board through C", LARGEST, "board")
 }

@@ -1,6 +1,6 @@
-// The plan test with two tables of 32-bit distances, as the proved one has it (document 02, §4), and what both ways of a lighter plan need
-// of it. Beside the table of all distances stands one of the ways down and then up: the non-negative edges, closed, and then rounds over
-// the negative ones until none lowers anything. Included behind plain.c.
+// The plan test with two tables of 32-bit distances, as the proved one has it (document 02, §4). Beside the table of all distances stands one
+// of the ways down and then up: the non-negative edges, closed, and then the negative ones before them. One round of these, each with all
+// distances behind it, says whether a projection is good; where it is not, rounds until nothing falls find the pair. Included behind plain.c.
 
 // Distances are 32-bit numbers; what is at least APART joins nothing. A sum with NOWHERE stays past APART, since no distance of a plan
 // without a cycle of negative sum is further from 0 than 32 records are.
@@ -103,9 +103,7 @@ static answer first_pair(const pair_test *s, u32 number) {
     return (answer){YES, number + 1, 0, 0};
 }
 
-// Whether one round says that the projection is good: each negative edge, and behind it all distances. The rounds below then need not be gone.
-static bool one_round;
-
+// Whether one round says that the projection is good: each negative edge, and behind it all distances.
 static bool good_at_once(pair_test *s) {
     for (u32 q = 0; q < s->rows; q++) {
         u8 from, to;
@@ -123,10 +121,8 @@ static bool close_rising(pair_test *s) {
 // What is found of the projection that s stands at, where its distances are there already.
 static answer judge_ways(pair_test *s, u32 number) {
     if (!close_rising(s)) return (answer){CYCLE, number, 0, 0};
-    if (one_round) {
-        if (good_at_once(s)) return (answer){YES, number + 1, 0, 0};
-        close_rising(s);
-    }
+    if (good_at_once(s)) return (answer){YES, number + 1, 0, 0};
+    close_rising(s);
     i64 before, after = total_of(s->ways);
     do {
         before = after;

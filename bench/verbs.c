@@ -82,8 +82,7 @@ static void import_text(void) {
 int main(int argc, char **argv) {
     const char *verb = argc == 2 ? argv[1] : "";
     if (!strcmp(verb, "sheet-counts")) taken_by = take_by_counts;
-    if (!strcmp(verb, "probe-two") || !strcmp(verb, "probe-once")) tested_by = test_with_two;
-    one_round = !strcmp(verb, "probe-once");
+    if (!strcmp(verb, "probe-two")) tested_by = test_with_two;
     if (!strncmp(verb, "sheet", 5)) return sheet(), 0;
     if (!strncmp(verb, "probe", 5)) return probe(), 0;
     if (!strcmp(verb, "lighter")) return lighter(), 0;
@@ -91,6 +90,6 @@ int main(int argc, char **argv) {
     if (!strcmp(verb, "worst")) return worst(false), 0;
     if (!strcmp(verb, "worst-counts")) return worst(true), 0;
     if (!strcmp(verb, "import")) return import_text(), 0;
-    fprintf(stderr, "usage: plain sheet | sheet-counts | probe | probe-two | probe-once | lighter | test | worst | worst-counts | import\n");
+    fprintf(stderr, "usage: plain sheet | sheet-counts | probe | probe-two | lighter | test | worst | worst-counts | import\n");
     return 2;
 }

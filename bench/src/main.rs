@@ -128,7 +128,6 @@ fn test(bench: &Bench) -> io::Result<()> {
     let sizes = [LARGEST, FULL].into_iter().chain(by_projections);
     for size in sizes.chain(BY_POINTS).chain([TYPICAL]) {
         bench.test("the plan test, against two tables", size, "probe-two")?;
-        bench.test("the plan test, against one round", size, "probe-once")?;
         bench.test("the plan test, against three tables", size, "probe")?;
     }
     Ok(())

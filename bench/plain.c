@@ -666,9 +666,6 @@ static void stream(u32 numbers, u32 x) {
     say_board(24);
 }
 
-// What the probe tests plans with.
-static answer (*tested_by)(const plan *) = test_plan;
-
 static void call(u8 asked, u32 first, u32 second) {
     plan p = desk_plan;
     u32 sum = 0;
@@ -707,7 +704,7 @@ static void call(u8 asked, u32 first, u32 second) {
         for (size_t i = 0; i < buffer_length; i++) sum = mixed(sum, buffer[i]);
         say(20, found.number, found.place, sum);
     } else if (asked == 21) {
-        answer found = tested_by(&desk_plan);
+        answer found = test_plan(&desk_plan);
         if (found.outcome == REFUSED) say(21, found.at, found.x, 0);
         else say(21, found.outcome, found.at, 0);
         if (found.outcome == PAIR) say(21, found.x, found.y, 0);

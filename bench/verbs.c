@@ -63,10 +63,15 @@ static void worst(bool counts) {
     printf("worst %u %u\n", found.minute, found.projection);
 }
 
-// `desk test`, as far as the verdict goes: what it says is not compared.
-static void test_alone(void) {
+// `desk test`.
+static void test_alone(answer (*test)(const plan *)) {
     static plan p;
-    if (plan_in(&p, stdout)) printf("test %u\n", refused_by(&p));
+    if (!plan_in(&p, stdout)) return;
+    answer found = test(&p);
+    if (found.outcome == YES) printf("test yes %u\n", found.at);
+    else if (found.outcome == CYCLE) printf("test cycle %u\n", found.at);
+    else if (found.outcome == PAIR) printf("test pair %u %u %u\n", found.at, found.x, found.y);
+    else printf("test %u\n", found.at);
 }
 
 // `desk import`.
@@ -82,14 +87,14 @@ static void import_text(void) {
 int main(int argc, char **argv) {
     const char *verb = argc == 2 ? argv[1] : "";
     if (!strcmp(verb, "sheet-counts")) taken_by = take_by_counts;
-    if (!strcmp(verb, "probe-two")) tested_by = test_with_two;
     if (!strncmp(verb, "sheet", 5)) return sheet(), 0;
-    if (!strncmp(verb, "probe", 5)) return probe(), 0;
+    if (!strcmp(verb, "probe")) return probe(), 0;
     if (!strcmp(verb, "lighter")) return lighter(), 0;
-    if (!strcmp(verb, "test")) return test_alone(), 0;
+    if (!strcmp(verb, "test")) return test_alone(test_with_two), 0;
+    if (!strcmp(verb, "test-three")) return test_alone(test_plan), 0;
     if (!strcmp(verb, "worst")) return worst(false), 0;
     if (!strcmp(verb, "worst-counts")) return worst(true), 0;
     if (!strcmp(verb, "import")) return import_text(), 0;
-    fprintf(stderr, "usage: plain sheet | sheet-counts | probe | probe-two | lighter | test | worst | worst-counts | import\n");
+    fprintf(stderr, "usage: plain sheet | sheet-counts | probe | lighter | test | test-three | worst | worst-counts | import\n");
     return 2;
 }

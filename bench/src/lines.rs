@@ -14,7 +14,6 @@ const REPEAT: u8 = 7;
 pub const REPLY: u8 = 16;
 pub const TAKE: u8 = 17;
 pub const VERDICT: u8 = 18;
-const TEST: u8 = 21;
 pub const READ: u8 = 22;
 /// Ends a plan part of what `sheet` reads.
 const MARK: [u8; 16] = [255; 16];
@@ -58,9 +57,6 @@ fn desk(plan: &Plan, asked: u8) -> Vec<u8> {
         return inputs::with_bytes(&plan.to_bytes());
     }
     let mut bytes = inputs::with_plan(plan);
-    if asked == TEST {
-        return bytes;
-    }
     let run = inputs::run(plan);
     let at = match asked {
         VERDICT => run.events.len(),
@@ -132,18 +128,17 @@ impl Bench {
         line(&machine, &sides, title(what, size), timing)
     }
 
-    /// The plan test, asked once; what the same requests without it take is taken off.
+    /// The plan test of a file by the program; what it takes for a file that is refused at once is taken off.
     pub fn test(&self, what: &str, size: Size, plain: &str) -> io::Result<()> {
-        let sides = self.sides(&self.probe, "", plain);
+        let sides = self.sides(&self.desk, "test", plain);
         let machine = Machine::new();
-        let desk = desk(&inputs::plan(size), TEST);
-        machine.input_without(&desk)?;
-        machine.input(&[desk, request(TEST, 0)].concat())?;
+        machine.input_without(&[0])?;
+        machine.input(&inputs::plan(size).to_bytes())?;
         line(&machine, &sides, title(what, size), less(&sides))
     }
 
     /// A million events through the printing program, refused after every window was looked at.
-    pub fn million(&self, what: &str, size: Size, plain: &str) -> io::Result<()> {
+    pub fn million(&self, what: &str, size: Size, plain: &str, runs: usize) -> io::Result<()> {
         const EVENTS: usize = 1_000_000;
         let sides = self.sides(&self.sheet, "", plain);
         let machine = Machine::new();
@@ -153,7 +148,7 @@ impl Bench {
         let mut input = sheet_of(&plan, &run.events[..at]);
         input.extend(inputs::refused(&plan, &run.boards[at]).repeat(EVENTS - at));
         machine.input(&input)?;
-        line(&machine, &sides, title(what, size), whole(RUNS))
+        line(&machine, &sides, title(what, size), whole(runs))
     }
 
     /// The whole verb `desk worst` against both plain ways, and the runs alone, without the test before them.

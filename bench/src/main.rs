@@ -127,8 +127,8 @@ fn test(bench: &Bench) -> io::Result<()> {
     });
     let sizes = [LARGEST, FULL].into_iter().chain(by_projections);
     for size in sizes.chain(BY_POINTS).chain([TYPICAL]) {
-        bench.test("the plan test, against two tables", size, "probe-two")?;
-        bench.test("the plan test, against three tables", size, "probe")?;
+        bench.test("the plan test, against two tables", size, "test")?;
+        bench.test("the plan test, against three tables", size, "test-three")?;
     }
     Ok(())
 }
@@ -136,12 +136,13 @@ fn test(bench: &Bench) -> io::Result<()> {
 fn sheet(bench: &Bench) -> io::Result<()> {
     for size in [LARGEST, FULL, BY_RECORDS[4]] {
         let what = "a million events through sheet, against kept counts";
-        bench.million(what, size, "sheet-counts")?;
+        bench.million(what, size, "sheet-counts", 7)?;
     }
     bench.million(
         "a million events through sheet, against all records read again",
         LARGEST,
         "sheet",
+        3,
     )
 }
 

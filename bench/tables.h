@@ -103,12 +103,12 @@ static answer first_pair(const pair_test *s, u32 number) {
     return (answer){YES, number + 1, 0, 0};
 }
 
-// Whether one round says that the projection is good: each negative edge, and behind it all distances.
+// Whether one round says that the projection is good: each negative edge that nothing undercuts, and behind it all distances.
 static bool good_at_once(pair_test *s) {
     for (u32 q = 0; q < s->rows; q++) {
         u8 from, to;
         i32 drop = fall_of(&s->sheet[q], s->lasts[s->sheet[q].over], &from, &to);
-        if (drop) lower_row(s->ways + from * POINTS, s->all + to * POINTS, -drop);
+        if (drop && s->all[from * POINTS + to] == -drop) lower_row(s->ways + from * POINTS, s->all + to * POINTS, -drop);
     }
     return first_pair(s, 0).outcome == YES;
 }

@@ -34,6 +34,7 @@ single-replies =
       import = (λ κ a. tt, λ κ a r r′ o o′ x y. same x y);
       pack = (λ κ a. tt, λ κ a r r′ o o′ x y. same (x .0) (y .0));
       pack-leaves = λ κ a r r′ o o′ x y. same (x .1) (y .1);
+      record-line = (λ κ a. tt, λ κ a r r′ o o′ x y. same x y);
       bound-kept = (λ κ a. tt, λ κ a r r′ o o′ x y. same x y);
       both-in = (λ κ a. tt, λ κ a r r′ o o′ x y. same x y);
       fresh = (λ κ a. tt, λ κ a r r′ o o′ x y. same x y);

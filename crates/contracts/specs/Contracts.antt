@@ -42,6 +42,7 @@ use Rattle.worst.proofs.day_of.Reads as day-of-code
 use Rattle.closure.proofs.close.Reads as close-code
 use Rattle.lines.proofs.blank.Reads as blank-code
 use Rattle.listing.proofs.pack.Reads as pack-code
+use Rattle.listed.proofs.record_line.Reads as record-line-code
 use Rattle.lighter.proofs.lighter_of.Reads as lighter-of-code
 use Rattle.dates.proofs.is_origin.Reads as is-origin-code
 use Rattle.dates.proofs.shown.Reads as shown-code
@@ -103,6 +104,8 @@ pub record SingleReplies : Type 0 where
   -- listing
   pub pack : Single pack-code.Pre pack-code.Post
   pub pack-leaves : Leaves pack-code.Post (λ o. o .1 .0 .now)
+  -- listed
+  pub record-line : Single record-line-code.Pre record-line-code.Post
   -- bounds
   pub bound-kept : Single bound-kept-code.Pre bound-kept-code.Post
   pub both-in : Single both-in-code.Pre both-in-code.Post

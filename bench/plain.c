@@ -1,7 +1,7 @@
 // The rules of document 01, with the twin records and the event numbers of document 02 and why a point is shut, in plain C, by the same
-// passes as the proved programs, to measure those against: `plain sheet` is the printing program, `plain probe` takes the requests of compare/PROBE.md, and
-// `plain lighter` is `desk lighter`. Every call checks the plan and the board that it is given, as the proved ones do. Nothing here
-// is proved.
+// passes as the proved programs, to measure those against: `plain sheet` is the printing program and `plain probe` takes the requests of
+// compare/PROBE.md. Every call checks the plan and the board that it is given, as the proved ones do. Nothing here is proved. It stands
+// alone, and is also included by verbs.c and calls.c (RULES_ALONE), which have the later requests of document 02 beside it.
 #include <stdbool.h>
 #include <stdint.h>
 #include <stdio.h>
@@ -9,6 +9,7 @@
 #include <unistd.h>
 
 typedef uint8_t u8;
+typedef uint16_t u16;
 typedef uint32_t u32;
 typedef uint64_t u64;
 typedef int32_t i32;
@@ -509,65 +510,6 @@ static answer test_plan(const plan *p) {
     return walk(&s, s.points, past, 0);
 }
 
-// --- A lighter plan: document 02, §11 ---
-
-// In the projection that s stands at the rows are good, and lead from one point of r to the other in no more than it says.
-static bool enough(test *s, const row *r) {
-    if (!fill(s, s->all, ALL) || s->all[r->from * POINTS + r->to] > r->first) return false;
-    if (!fill(s, s->falls, FALLING) || !fill(s, s->rises, RISING)) return false;
-    for (u32 x = 0; x < s->points; x++)
-        for (u32 y = 0; y < s->points; y++) {
-            i64 v = s->all[x * POINTS + y];
-            if (v < NONE && !reaches(s, x, y, v)) return false;
-        }
-    return true;
-}
-
-// .. in each projection, up to the first in which they are not.
-static bool enough_in_all(test *s, u32 link, u32 past, const row *r) {
-    if (link == past) return enough(s, r);
-    const row *l = &s->sheet[link];
-    for (i64 p = l->first; p <= l->second; p++) {
-        s->durations[l->over] = p;
-        if (!enough_in_all(s, link + 1, past, r)) return false;
-    }
-    return true;
-}
-
-// The rows of a plan, without the record at one place; answers how many links it has.
-static u32 lay_out(const plan *p, u32 without, test *s) {
-    links l;
-    links_of(p, &l);
-    s->rows = 0, s->points = points_of(p);
-    memset(s->durations, 0, sizeof s->durations);
-    u32 count = 0;
-    for (u32 i = 0; i < p->count; i++) {
-        const record *r = &p->records[i];
-        count += r->kind == LINK;
-        if (i != without)
-            s->sheet[s->rows++] = (row){r->kind, r->a, r->kind == WAIT ? l.from[r->b] : r->b, r->b, r->first, r->second};
-    }
-    return count;
-}
-
-// Drops each ordinary record of a plan that passes, in file order, that the others make up for; answers how many went.
-static u32 drop_all(plan *p, u32 *dropped) {
-    static test s;
-    u32 count = 0, total = p->count;
-    for (u32 i = 0; i < total; i++) {
-        u32 at = i - count;
-        const record *r = &p->records[at];
-        if (r->kind != ORDINARY) continue;
-        row tried = {r->kind, r->a, r->b, r->b, r->first, r->second};
-        u32 past = lay_out(p, at, &s);
-        if (!enough_in_all(&s, s.points, s.points + past, &tried)) continue;
-        memmove(p->records + at, p->records + at + 1, (p->count - at - 1) * sizeof *p->records);
-        p->count--;
-        dropped[count++] = i;
-    }
-    return count;
-}
-
 // --- The printing program ---
 
 static u8 lines[65536];
@@ -630,6 +572,9 @@ static void put_end(const plan *p, const board *b) {
     else put_line(r.outcome == STUCK ? "end stuck" : "end open", NULL, 0);
 }
 
+// What the printing program takes events with.
+static refusal (*taken_by)(const plan *, board *, const u8 *, size_t) = take;
+
 static void sheet(void) {
     static u8 chunk[65536], file[RECORD * (RECORDS + 2)];
     static plan p;
@@ -644,7 +589,7 @@ static void sheet(void) {
             const u8 *r = chunk + at;
             if (refused) continue;
             if (playing) {
-                found = take(&p, &b, r, RECORD);
+                found = taken_by(&p, &b, r, RECORD);
                 say(events++, found.number, b.clock, __builtin_popcount(b.done));
             } else if (is_mark(r)) {
                 found = read_plan(file, length, &p);
@@ -804,34 +749,11 @@ static void probe(void) {
     flush();
 }
 
-static void lighter(void) {
-    static plan p;
-    static u32 dropped[RECORDS];
-    size_t n = read_full(buffer, sizeof buffer);
-    refusal found = read_plan(buffer, n, &p);
-    if (found.number) {
-        fprintf(stderr, "plan %u %u\n", found.number, found.place);
-        return;
-    }
-    answer tested = test_plan(&p);
-    if (tested.outcome != YES) {
-        fprintf(stderr, "lighter %u\n", tested.outcome == REFUSED ? tested.at : 60);
-        return;
-    }
-    u32 count = drop_all(&p, dropped);
-    write_plan(&p, buffer, sizeof buffer);
-    for (size_t done = 0, all = RECORD * (size_t)p.count; done < all;) {
-        ssize_t k = write(1, buffer + done, all - done);
-        if (k <= 0) break;
-        done += k;
-    }
-    for (u32 i = 0; i < count; i++) fprintf(stderr, "dropped %u\n", dropped[i]);
-}
-
+#ifndef RULES_ALONE
 int main(int argc, char **argv) {
     if (argc == 2 && !strcmp(argv[1], "sheet")) return sheet(), 0;
     if (argc == 2 && !strcmp(argv[1], "probe")) return probe(), 0;
-    if (argc == 2 && !strcmp(argv[1], "lighter")) return lighter(), 0;
-    fprintf(stderr, "usage: plain sheet | plain probe | plain lighter\n");
+    fprintf(stderr, "usage: plain sheet | plain probe\n");
     return 2;
 }
+#endif

@@ -29,21 +29,20 @@ pub const FULL: Size = Size {
     projections: 4_096,
 };
 
-/// A plan that passes the test by its form, as compare/src/plans.rs has them: first the calm points, then the late ones,
-/// then the ends of links. Negative steps start at late points and at ends; no step of zero or more leads to a late point,
-/// and to an end only from its A.
-pub fn plan(size: Size) -> Plan {
+/// The largest plan that there is: each pair of points has its ordinary record.
+pub const LARGEST: Size = Size {
+    ordinary: 992,
+    ..FULL
+};
+
+/// Links of a plan, a quarter as many as points, the ends of which are the last points; from the point `first` on two start at each.
+fn links(size: Size, first: usize) -> Vec<Link> {
     let n = size.points;
-    let links = n / 4;
-    let calm = (n - links) / 2;
-    let ends = n - links;
-    let mut plan = Plan {
-        ponds: (0..n as u32).map(|point| 1_000_000 + point).collect(),
-        ..Plan::default()
-    };
+    let (count, calm) = (n / 4, (n - n / 4) / 2);
     let mut left = size.projections;
-    for k in 0..links {
-        let after = links - 1 - k;
+    let mut links = Vec::new();
+    for k in 0..count {
+        let after = count - 1 - k;
         let span = if after == 0 {
             left
         } else {
@@ -51,13 +50,106 @@ pub fn plan(size: Size) -> Plan {
         };
         left /= span;
         let x = 10 + k as i64;
-        plan.links.push(Link {
-            a: k / 2 % calm,
+        links.push(Link {
+            a: first + k / 2 % calm,
             x,
             y: x + span as i64 - 1,
-            c: ends + k,
+            c: n - count + k,
         });
     }
+    links
+}
+
+/// So many waits, of the late points.
+fn waits(size: Size, links: &[Link]) -> Vec<Wait> {
+    let ends = size.points - links.len();
+    let calm = ends / 2;
+    let wait = |j: usize| {
+        let link = links[j * 3 % links.len()];
+        Wait {
+            v: calm + j % (ends - calm),
+            c: link.c,
+            w: 1 + j as i64 % link.y,
+        }
+    };
+    (0..size.waits).map(wait).collect()
+}
+
+fn ponds(points: usize) -> Vec<u32> {
+    (0..points as u32).map(|point| 1_000_000 + point).collect()
+}
+
+/// The step from x to y of a plan that has one for each pair. Calm points are lowest, then ends of links, then late points, each higher than
+/// the one before it; down from a late point steps are negative, and all others are longer the higher they end. So a step up and
+/// one down behind it are never shorter than the step that joins the two points at once, and the plan passes.
+fn step(n: usize, x: usize, y: usize) -> Ordinary {
+    let ends = n - n / 4;
+    let calm = ends / 2;
+    let level = |p: usize| match p {
+        p if p < calm => 0,
+        p if p < ends => 2_000 + 100 * (p - calm) as i64,
+        _ => 1_000,
+    };
+    let mix = ((7 * x + 13 * y) % 31) as i64;
+    let is_late = calm <= x && x < ends;
+    let d = if is_late && level(y) < level(x) {
+        -1 - mix % 9
+    } else {
+        2_000 + level(y) + mix
+    };
+    Ordinary { x, d, y }
+}
+
+/// The plan that has a record for each pair of points.
+fn whole(size: Size) -> Plan {
+    let n = size.points;
+    let links = links(size, 0);
+    let pairs = (0..n).flat_map(|x| (0..n).map(move |y| (x, y)));
+    let mut pairs: Vec<(usize, usize)> = pairs.filter(|(x, y)| x != y).collect();
+    pairs.sort_by_key(|&(x, y)| (11 * x + 17 * y) % 37);
+    Plan {
+        ponds: ponds(n),
+        ordinary: pairs.iter().map(|&(x, y)| step(n, x, y)).collect(),
+        waits: waits(size, &links),
+        links,
+    }
+}
+
+/// A plan of 32 points in which four records lead from point 0 and four to it, and so many join others: what an event of point 0
+/// changes is the same for any number.
+pub fn around(others: usize) -> Plan {
+    let links = links(LARGEST, 1);
+    let to = (1..5).map(|y| Ordinary { x: 0, d: 900, y });
+    let from = (12..16).map(|x| Ordinary { x, d: -5, y: 0 });
+    let pairs = (1..32).flat_map(|x| (1..32).map(move |y| (x, y)));
+    let mut pairs: Vec<(usize, usize)> = pairs.filter(|(x, y)| x != y).collect();
+    pairs.sort_by_key(|&(x, y)| (11 * x + 17 * y) % 37);
+    let others = pairs.iter().take(others).map(|&(x, y)| step(32, x, y));
+    Plan {
+        ponds: ponds(32),
+        ordinary: to.chain(from).chain(others).collect(),
+        waits: waits(LARGEST, &links),
+        links,
+    }
+}
+
+/// A plan that passes the test by its form, as compare/src/plans.rs has them: first the calm points, then the late ones,
+/// then the ends of links. Negative steps start at late points and at ends; no step of zero or more leads to a late point,
+/// and to an end only from its A.
+pub fn plan(size: Size) -> Plan {
+    let n = size.points;
+    if size.ordinary == n * (n - 1) {
+        return whole(size);
+    }
+    let ends = n - n / 4;
+    let calm = ends / 2;
+    let links = links(size, 0);
+    let mut plan = Plan {
+        ponds: ponds(n),
+        waits: waits(size, &links),
+        links,
+        ..Plan::default()
+    };
     // Steps up, which end at calm points, and steps down from late ones, in turn and each in a mixed order. Down the list of
     // late points they go to the ends, and around to the calm ones past them. No pair has two records: those would be twins.
     let mixed = |mut pairs: Vec<(usize, usize)>| {
@@ -79,12 +171,6 @@ pub fn plan(size: Size) -> Plan {
                 plan.ordinary.push(Ordinary { x, d, y });
             }
         }
-    }
-    for j in 0..size.waits {
-        let link = plan.links[j * 3 % links];
-        let v = calm + j % (ends - calm);
-        let w = 1 + j as i64 % link.y;
-        plan.waits.push(Wait { v, c: link.c, w });
     }
     plan
 }
@@ -154,6 +240,35 @@ pub fn refused(plan: &Plan, at: &Board) -> [u8; RECORD] {
     all.find(late).expect("some point is shut or too early")
 }
 
+/// A plan as the office's text, some of its fields in quotes.
+pub fn text(plan: &Plan) -> Vec<u8> {
+    let words = ["", "point", "link", "ordinary", "wait"];
+    let mut text = String::new();
+    for (k, r) in plan.to_records().iter().enumerate() {
+        let word = words[usize::from(r.kind)];
+        let word = if k % 4 == 0 {
+            format!("\"{word}\"")
+        } else {
+            word.to_string()
+        };
+        let code = r.code.checked_sub(1).map_or(String::new(), pond);
+        text += &format!("{word},{},{},{},{},{code}\r\n", r.a, r.b, r.first, r.second);
+    }
+    text.into_bytes()
+}
+
+/// Two letters and four digits.
+fn pond(code: u32) -> String {
+    let letter = |k: u32| char::from(b'A' + k as u8);
+    let letters = code / 10_000;
+    format!(
+        "{}{}{:04}",
+        letter(letters / 26),
+        letter(letters % 26),
+        code % 10_000
+    )
+}
+
 /// A request of the probe.
 pub fn request(asked: u8, bytes: [u8; 3], numbers: [u32; 3]) -> Vec<u8> {
     let numbers = numbers.iter().flat_map(|number| number.to_le_bytes());
@@ -209,6 +324,7 @@ mod tests {
             (32, 45, 15),
             (32, 256, 64),
             (32, 534, 64),
+            (32, 992, 64),
         ] {
             let projections = 256;
             let size = Size {

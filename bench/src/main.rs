@@ -1,47 +1,88 @@
-//! The benchmark: bench PLAIN PROBE SHEET DESK, each the words that start a program, joined by spaces.
+//! The benchmark: bench PLAIN PROBE SHEET DESK CALLS [GROUP..], each of the first five the words that start a program, joined by spaces.
+//! CALLS may be empty; then what goes through the C interface is left out. With groups only their lines are measured.
 //! Started by bench/run from the folder above. README.md says what the lines are.
 
 mod inputs;
+mod lines;
 mod measure;
 
-use inputs::{Size, FULL};
-use measure::{spread, Machine, Words};
-use oracle::plan::Plan;
+use inputs::{Size, FULL, LARGEST};
+use lines::{Bench, READ, REPLY, TAKE, VERDICT};
+use measure::Words;
 use std::io;
 use std::process::ExitCode;
 
-/// So often each line is measured, both sides in turn.
-const RUNS: usize = 7;
-/// A side is to take about so many seconds in each.
-const SECONDS: f64 = 0.05;
-/// Requests of the probe.
-const REPEAT: u8 = 7;
-const REPLY: u8 = 16;
-const TAKE: u8 = 17;
-const VERDICT: u8 = 18;
-const TEST: u8 = 21;
-const READ: u8 = 22;
+/// A typical plan, of 122 records.
+const TYPICAL: Size = Size {
+    points: 20,
+    ordinary: 85,
+    waits: 12,
+    projections: 512,
+};
 
-/// The two sides of one kind of line.
-struct Sides {
-    ours: Words,
-    plain: Words,
+/// 100 records each: eight points have no room for more ordinary ones of this form.
+const BY_POINTS: [Size; 3] = [
+    of_points(8, 30, 60),
+    of_points(16, 55, 25),
+    of_points(32, 45, 15),
+];
+
+const fn of_points(points: usize, ordinary: usize, waits: usize) -> Size {
+    let projections = 4_096;
+    Size {
+        points,
+        ordinary,
+        waits,
+        projections,
+    }
 }
 
+/// Plans of 32 points, the largest first.
+const BY_RECORDS: [Size; 6] = [
+    LARGEST,
+    FULL,
+    of_points(32, 256, 64),
+    of_points(32, 112, 28),
+    of_points(32, 40, 10),
+    of_points(32, 4, 1),
+];
+
+/// A group of lines, and what measures them.
+type Group = (&'static str, fn(&Bench) -> io::Result<()>);
+
+const GROUPS: [Group; 9] = [
+    ("calls", calls),
+    ("test", test),
+    ("sheet", sheet),
+    ("worst", worst),
+    ("lighter", lighter),
+    ("engine", engine),
+    ("calendar", calendar),
+    ("import", import),
+    ("through", through),
+];
+
 fn main() -> ExitCode {
-    let words: Vec<String> = std::env::args().collect();
-    let split = |text: &str| -> Words { text.split_whitespace().map(str::to_string).collect() };
-    let [_, plain, probe, sheet, desk] = &words[..] else {
-        eprintln!("usage: bench PLAIN PROBE SHEET DESK");
+    let words: Vec<String> = std::env::args().skip(1).collect();
+    let split = |text: &String| -> Words { text.split_whitespace().map(str::to_string).collect() };
+    let [plain, probe, sheet, desk, calls, wanted @ ..] = &words[..] else {
+        eprintln!("usage: bench PLAIN PROBE SHEET DESK CALLS [GROUP..]");
         return ExitCode::from(2);
     };
-    let sides = |ours: &str, name: &str| Sides {
-        ours: split(ours),
-        plain: [split(plain), vec![name.to_string()]].concat(),
+    let known = |name: &String| GROUPS.iter().any(|(group, _)| group == name);
+    if let Some(name) = wanted.iter().find(|name| !known(name)) {
+        eprintln!("bench: no group is called {name}");
+        return ExitCode::from(2);
+    }
+    let [plain, probe, sheet, desk, calls] = [plain, probe, sheet, desk, calls].map(split);
+    let bench = Bench {
+        plain,
+        probe,
+        sheet,
+        desk,
+        calls,
     };
-    let lighter = sides(&format!("{desk} lighter"), "lighter");
-    let result = table(&sides(probe, "probe"), &sides(sheet, "sheet"), &lighter);
-    match result {
+    match table(&bench, wanted) {
         Ok(()) => ExitCode::SUCCESS,
         Err(error) => {
             eprintln!("bench: {error}");
@@ -50,193 +91,131 @@ fn main() -> ExitCode {
     }
 }
 
-fn table(probe: &Sides, sheet: &Sides, lighter: &Sides) -> io::Result<()> {
+fn table(bench: &Bench, wanted: &[String]) -> io::Result<()> {
     println!(
         "| what | points | records | projections | ours | plain C | ratio | least | largest |"
     );
     println!("|---|---:|---:|---:|---:|---:|---:|---:|---:|");
-    let records = [(4, 1), (40, 10), (112, 28), (256, 64), (534, 64)];
-    let by_records = records.map(|(ordinary, waits)| Size {
-        ordinary,
-        waits,
-        ..FULL
-    });
-    // 100 records each: eight points have no room for more ordinary ones of this form.
-    let by_points = [(8, 30, 60), (16, 55, 25), (32, 45, 15)].map(|(points, ordinary, waits)| {
-        let projections = 4_096;
-        Size {
-            points,
-            ordinary,
-            waits,
-            projections,
+    for (name, group) in GROUPS {
+        if wanted.is_empty() || wanted.iter().any(|one| one == name) {
+            group(bench)?;
         }
-    });
-    let by_projections = [256, 1_024].map(|projections| Size {
-        projections,
-        ..FULL
-    });
-    for size in by_records.iter().rev() {
-        call(probe, "reading", *size, READ)?;
+    }
+    Ok(())
+}
+
+fn calls(bench: &Bench) -> io::Result<()> {
+    for size in BY_RECORDS {
+        bench.call("reading", size, READ)?;
     }
     for (what, asked) in [
         ("a reply", REPLY),
         ("an event", TAKE),
         ("a verdict", VERDICT),
     ] {
-        for size in by_records.iter().rev() {
-            call(probe, what, *size, asked)?;
+        for size in BY_RECORDS.iter().chain(&BY_POINTS[..2]) {
+            bench.call(what, *size, asked)?;
         }
-        for size in &by_points[..2] {
-            call(probe, what, *size, asked)?;
-        }
-    }
-    call(probe, "the plan test", FULL, TEST)?;
-    for size in by_projections.iter().rev().chain(&by_points) {
-        call(probe, "the plan test", *size, TEST)?;
-    }
-    million(sheet, FULL)?;
-    million(sheet, by_records[1])?;
-    // A typical plan of 122 records, and one of half as many.
-    for ordinary in [85, 42] {
-        let size = Size {
-            points: 20,
-            ordinary,
-            waits: 12,
-            projections: 512,
-        };
-        made_lighter(lighter, size)?;
     }
     Ok(())
 }
 
-/// One line: a plan made lighter by the whole program.
-fn made_lighter(sides: &Sides, size: Size) -> io::Result<()> {
-    let machine = Machine::new();
-    machine.input(&inputs::plan(size).to_bytes())?;
-    line(&machine, sides, "a lighter plan", size, [0.0; 2], 1.0)
+fn test(bench: &Bench) -> io::Result<()> {
+    let by_projections = [1_024, 256].map(|projections| Size {
+        projections,
+        ..FULL
+    });
+    let sizes = [LARGEST, FULL].into_iter().chain(by_projections);
+    for size in sizes.chain(BY_POINTS).chain([TYPICAL]) {
+        bench.test("the plan test, against two tables", size, "test")?;
+        bench.test("the plan test, against three tables", size, "test-three")?;
+    }
+    Ok(())
 }
 
-/// What stands on the desk for a call.
-fn desk(plan: &Plan, asked: u8) -> Vec<u8> {
-    if asked == READ {
-        return inputs::with_bytes(&plan.to_bytes());
+fn sheet(bench: &Bench) -> io::Result<()> {
+    for size in [LARGEST, FULL, BY_RECORDS[4]] {
+        let what = "a million events through sheet, against kept counts";
+        bench.million(what, size, "sheet-counts", 7)?;
     }
-    let mut bytes = inputs::with_plan(plan);
-    if asked == TEST {
-        return bytes;
-    }
-    let run = inputs::run(plan);
-    let at = match asked {
-        VERDICT => run.events.len(),
-        _ => run.middle(plan),
-    };
-    bytes.extend(inputs::with_board(&run.boards[at]));
-    if asked == TAKE {
-        bytes.extend(inputs::with_bytes(&run.events[at]));
-    }
-    bytes
-}
-
-/// One line: a call of the probe, repeated so often that it can be timed.
-fn call(sides: &Sides, what: &str, size: Size, asked: u8) -> io::Result<()> {
-    let machine = Machine::new();
-    let desk = desk(&inputs::plan(size), asked);
-    let ask = |times: u32| {
-        let repeat = inputs::request(REPEAT, [0; 3], [times, 0, 0]);
-        let call = inputs::request(asked, [0; 3], [0; 3]);
-        [&desk[..], &repeat, &call].concat()
-    };
-    // The test is long enough by itself: it is asked as it is, and not subtracted from.
-    let mut times = 1;
-    if asked != TEST {
-        times = 500;
-        loop {
-            machine.input(&ask(times))?;
-            let seconds = machine.run(&sides.plain, false)?.1;
-            if seconds > SECONDS || times > 50_000_000 {
-                break;
-            }
-            times = (f64::from(times) * (SECONDS / seconds.max(1e-3)).clamp(1.5, 20.0)) as u32;
-        }
-    }
-    let mut empty = [0.0, 0.0];
-    if asked != TEST {
-        machine.input(&ask(0))?;
-        for (side, words) in [&sides.ours, &sides.plain].into_iter().enumerate() {
-            let runs = (0..RUNS).map(|_| Ok(machine.run(words, false)?.1));
-            empty[side] = spread(runs.collect::<io::Result<Vec<f64>>>()?)[0];
-        }
-    }
-    machine.input(&ask(times))?;
-    line(&machine, sides, what, size, empty, f64::from(times))
-}
-
-/// One line: a million events through the printing program, refused after every window was looked at.
-fn million(sides: &Sides, size: Size) -> io::Result<()> {
-    const EVENTS: usize = 1_000_000;
-    let machine = Machine::new();
-    let plan = inputs::plan(size);
-    let run = inputs::run(&plan);
-    let at = run.middle(&plan);
-    let mut input = plan.to_bytes();
-    input.extend([255; 16]);
-    input.extend(run.events[..at].concat());
-    input.extend(inputs::refused(&plan, &run.boards[at]).repeat(EVENTS - at));
-    machine.input(&input)?;
-    line(
-        &machine,
-        sides,
-        "a million events through sheet",
-        size,
-        [0.0; 2],
-        1.0,
+    bench.million(
+        "a million events through sheet, against all records read again",
+        LARGEST,
+        "sheet",
+        3,
     )
 }
 
-/// Measures both sides in turn on the input that is there, and prints the line. `empty` is what each side takes for the
-/// same input without the call, `times` how often the call is made.
-fn line(
-    machine: &Machine,
-    sides: &Sides,
-    what: &str,
-    size: Size,
-    empty: [f64; 2],
-    times: f64,
-) -> io::Result<()> {
-    let same = machine.run(&sides.ours, true)?.0 == machine.run(&sides.plain, true)?.0;
-    let mut seconds = [Vec::new(), Vec::new()];
-    let mut ratios = Vec::new();
-    for _ in 0..RUNS {
-        let ours = (machine.run(&sides.ours, false)?.1 - empty[0]) / times;
-        let plain = (machine.run(&sides.plain, false)?.1 - empty[1]) / times;
-        seconds[0].push(ours);
-        seconds[1].push(plain);
-        ratios.push(ours / plain);
+fn worst(bench: &Bench) -> io::Result<()> {
+    for size in [LARGEST, FULL, TYPICAL] {
+        bench.worst("the worst minute", size)?;
     }
-    let [ours, plain] = seconds.map(|all| spread(all)[0]);
-    let [ratio, least, largest] = spread(ratios);
-    println!(
-        "| {what} | {} | {} | {} | {} | {} | {ratio:.2} | {least:.2} | {largest:.2} |{}",
-        size.points,
-        size.records(),
-        size.projections,
-        time(ours),
-        time(plain),
-        if same {
-            ""
-        } else {
-            " THE TWO DO NOT SAY THE SAME"
-        },
-    );
     Ok(())
 }
 
-/// A time that can be read.
-fn time(seconds: f64) -> String {
-    match seconds {
-        s if s < 1e-6 => format!("{:.0} ns", s * 1e9),
-        s if s < 1e-3 => format!("{:.2} µs", s * 1e6),
-        s if s < 1.0 => format!("{:.1} ms", s * 1e3),
-        s => format!("{s:.2} s"),
+fn lighter(bench: &Bench) -> io::Result<()> {
+    let half = Size {
+        ordinary: 42,
+        ..TYPICAL
+    };
+    for size in [TYPICAL, half] {
+        bench.lighter(size, 7)?;
     }
+    for projections in [256] {
+        let size = Size {
+            projections,
+            ..LARGEST
+        };
+        bench.lighter(size, 1)?;
+    }
+    Ok(())
+}
+
+fn engine(bench: &Bench) -> io::Result<()> {
+    for (what, kind) in [
+        ("an event by the engine", "event"),
+        ("a reply by the engine", "reply"),
+    ] {
+        for size in BY_RECORDS {
+            bench.through(&format!("{what}, against kept counts"), size, kind)?;
+        }
+        let what = format!("{what}, against all records read again");
+        bench.through(&what, LARGEST, &format!("{kind}-plain"))?;
+    }
+    for others in [0, 100, 300, 930] {
+        bench.around(others)?;
+    }
+    bench.through("the engine begun", LARGEST, "begin")
+}
+
+fn calendar(bench: &Bench) -> io::Result<()> {
+    bench.through("a calendar", LARGEST, "calendar")?;
+    bench.through("a calendar", of_points(32, 4, 1), "calendar")
+}
+
+fn import(bench: &Bench) -> io::Result<()> {
+    let text = inputs::text(&inputs::plan(LARGEST));
+    bench.import("desk import of the largest plan", &text)?;
+    bench.text("importing the largest plan", &text)?;
+    let many: Vec<u8> = text.iter().copied().cycle().take(text.len() * 17).collect();
+    bench.text("importing 18,632 lines", &many)?;
+    let line: Vec<u8> = b"ordinary,1,2,-5,0,AB1234,"
+        .iter()
+        .copied()
+        .cycle()
+        .take(50_000_000)
+        .collect();
+    bench.text("importing one line of 50 MB", &line)
+}
+
+fn through(bench: &Bench) -> io::Result<()> {
+    for (what, kind) in [
+        ("reading through C", "check"),
+        ("a verdict through C", "verdict"),
+    ] {
+        for size in [LARGEST, FULL, of_points(32, 4, 1)] {
+            bench.through(what, size, kind)?;
+        }
+    }
+    bench.through("a board through C", LARGEST, "board")
 }

@@ -2,7 +2,7 @@
 
 use std::fs::File;
 use std::io::{self, Write};
-use std::path::PathBuf;
+use std::path::{Path, PathBuf};
 use std::process::{Command, Stdio};
 
 /// The words that start a program.
@@ -29,15 +29,18 @@ fn children() -> f64 {
     seconds(usage.user) + seconds(usage.system)
 }
 
+/// The place of the input, and that of the same input without what is timed.
 pub struct Machine {
-    pub scratch: PathBuf,
+    scratch: PathBuf,
+    without: PathBuf,
 }
 
 impl Machine {
     pub fn new() -> Machine {
-        let name = format!("bench-{}.input", std::process::id());
+        let name = |what: &str| format!("bench-{}.{what}", std::process::id());
         Machine {
-            scratch: std::env::temp_dir().join(name),
+            scratch: std::env::temp_dir().join(name("input")),
+            without: std::env::temp_dir().join(name("without")),
         }
     }
 
@@ -46,12 +49,32 @@ impl Machine {
         File::create(&self.scratch)?.write_all(bytes)
     }
 
+    /// The same input without what is timed.
+    pub fn input_without(&self, bytes: &[u8]) -> io::Result<()> {
+        File::create(&self.without)?.write_all(bytes)
+    }
+
     /// Runs a program: what it printed, if that is wanted, on standard error last, and its seconds.
     pub fn run(&self, words: &Words, wanted: bool) -> io::Result<(Vec<u8>, f64)> {
+        Machine::run_on(&self.scratch, words, wanted)
+    }
+
+    /// The seconds of a program without what is timed.
+    pub fn run_without(&self, words: &Words) -> io::Result<f64> {
+        Ok(Machine::run_on(&self.without, words, false)?.1)
+    }
+
+    fn run_on(input: &Path, words: &Words, wanted: bool) -> io::Result<(Vec<u8>, f64)> {
         let before = children();
         let mut command = Command::new(&words[0]);
-        command.args(&words[1..]).stdin(File::open(&self.scratch)?);
-        let end = || if wanted { Stdio::piped() } else { Stdio::null() };
+        command.args(&words[1..]).stdin(File::open(input)?);
+        let end = || {
+            if wanted {
+                Stdio::piped()
+            } else {
+                Stdio::null()
+            }
+        };
         command.stdout(end()).stderr(end());
         let output = command.spawn()?.wait_with_output()?;
         if !output.status.success() {
@@ -66,6 +89,7 @@ impl Drop for Machine {
     fn drop(&mut self) {
         // It is there only if something was run.
         let _ = std::fs::remove_file(&self.scratch);
+        let _ = std::fs::remove_file(&self.without);
     }
 }
 

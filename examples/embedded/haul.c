@@ -34,7 +34,8 @@ static void show(void) {
 static void tell(uint32_t minute, unsigned point, int watched) {
   uint8_t event[PONDS_RECORD_BYTES];
   uint64_t answer;
-  ponds_event(event, minute, watched ? PONDS_NO_POINT : (uint8_t)point, watched ? 1u << point : 0);
+  if (watched) ponds_event(event, minute, PONDS_NO_POINT, 1u << point);
+  else ponds_event(event, minute, (uint8_t)point, 0);
   answer = ponds_day_take(&day, event, sizeof event);
   printf("\nMinute %u, %s: ", (unsigned)minute, steps[point]);
   if (ponds_number(answer) == 0) printf("taken.\n");

@@ -105,7 +105,7 @@ impl<'f> Plan<'f> {
 
     /// The events of a projection's run, written to the front of `out`, which may be as long as [`MOST_DAY`](crate::MOST_DAY);
     /// none for a projection past the last. 13, 60, or 12 where `out` is too short.
-    pub fn day<'o>(self, projection: u32, out: &'o mut [u8]) -> Result<&'o [u8], Refusal> {
+    pub fn day(self, projection: u32, out: &mut [u8]) -> Result<&[u8], Refusal> {
         let (file, length) = (self.file.as_ptr(), self.file.len());
         // SAFETY: slices are not null and have their lengths, and a borrow that writes overlaps no other.
         let events = Refusal::of(unsafe {

@@ -1,5 +1,5 @@
 //! Holds three texts together: include/ponds.h, src/sys.rs of this crate, and the functions of crates/ponds that the archive
-//! exports. Each function has to stand in all three with the same parameters, in the same order, of the same types, with the
+//! exports. Each function has to stand in all three with parameters of the same names and types, in the same order, with the
 //! same lengths of arrays. Nothing but this says that a caller and the archive mean the same: a linker knows names alone.
 
 use std::collections::BTreeMap;
@@ -24,7 +24,8 @@ fn source(name: &str) -> String {
     texts.collect()
 }
 
-/// Parameters as `const u8 *` for one that is only read, `u32 [98]` for an array that is written, `usize`.
+/// Parameters as `file const u8 *` for one that is only read, `links u32 [98]` for an array that is written, `usize` for a length,
+/// whatever its name.
 type Functions = BTreeMap<String, Vec<String>>;
 
 /// The text without the C comments in it.
@@ -76,6 +77,14 @@ fn rust_type(c: &str) -> &str {
     }
 }
 
+/// A number that is passed by value.
+fn number(name: &str, kind: &str) -> String {
+    match kind {
+        "usize" => kind.to_string(),
+        _ => format!("{name} {kind}"),
+    }
+}
+
 /// `const uint8_t *file`, `uint32_t links[PONDS_LINKS]`, `size_t length`.
 fn of_header(one: &str, constants: &BTreeMap<String, usize>) -> String {
     let (constant, rest) = match one.strip_prefix("const ") {
@@ -84,13 +93,13 @@ fn of_header(one: &str, constants: &BTreeMap<String, usize>) -> String {
     };
     let (kind, name) = rest.split_once(' ').expect("a type and a name");
     let kind = rust_type(kind);
-    match name.split_once('[') {
-        Some((_, length)) => format!(
-            "{constant}{kind} [{}]",
-            constants[length.trim_end_matches(']')]
-        ),
-        None if name.starts_with('*') => format!("{constant}{kind} *"),
-        None => kind.to_string(),
+    match (name.split_once('['), name.strip_prefix('*')) {
+        (Some((name, length)), _) => {
+            let length = constants[length.trim_end_matches(']')];
+            format!("{name} {constant}{kind} [{length}]")
+        }
+        (None, Some(name)) => format!("{name} {constant}{kind} *"),
+        (None, None) => number(name, kind),
     }
 }
 
@@ -116,17 +125,17 @@ fn length(word: &str, constants: &BTreeMap<String, usize>) -> usize {
 
 /// `file: *const u8`, `links: *mut [u32; LINKS]`, `length: usize`.
 fn of_crate(one: &str, constants: &BTreeMap<String, usize>) -> String {
-    let (_, kind) = one.split_once(": ").expect("a name and a type");
+    let (name, kind) = one.split_once(": ").expect("a name and a type");
     let (constant, rest) = if let Some(rest) = kind.strip_prefix("*const ") {
         ("const ", rest)
     } else if let Some(rest) = kind.strip_prefix("*mut ") {
         ("", rest)
     } else {
-        return kind.to_string();
+        return number(name, kind);
     };
     match rest.trim_matches(['[', ']']).split_once("; ") {
-        Some((kind, n)) => format!("{constant}{kind} [{}]", length(n, constants)),
-        None => format!("{constant}{rest} *"),
+        Some((kind, n)) => format!("{name} {constant}{kind} [{}]", length(n, constants)),
+        None => format!("{name} {constant}{rest} *"),
     }
 }
 
@@ -135,22 +144,22 @@ const LENGTHS: [(&str, &str); 0] = [];
 
 /// `file: &[u8]`, which crosses as two, `links: &mut [u32; LINKS]`, `projection: u32`.
 fn of_source(one: &str, constants: &BTreeMap<String, usize>) -> Vec<String> {
-    let (_, kind) = one.split_once(": ").expect("a name and a type");
+    let (name, kind) = one.split_once(": ").expect("a name and a type");
     let (constant, rest) = if let Some(rest) = kind.strip_prefix("&mut ") {
         ("", rest)
     } else if let Some(rest) = kind.strip_prefix('&') {
         ("const ", rest)
     } else {
-        return vec![kind.to_string()];
+        return vec![number(name, kind)];
     };
     match rest.trim_matches(['[', ']']).split_once("; ") {
         Some((kind, word)) => {
             let named = LENGTHS.iter().find(|(theirs, _)| *theirs == word);
             let n = length(named.map_or(word, |(_, ours)| ours), constants);
-            vec![format!("{constant}{kind} [{n}]")]
+            vec![format!("{name} {constant}{kind} [{n}]")]
         }
         None => vec![
-            format!("{constant}{} *", rest.trim_matches(['[', ']'])),
+            format!("{name} {constant}{} *", rest.trim_matches(['[', ']'])),
             "usize".to_string(),
         ],
     }

@@ -86,6 +86,9 @@ int main(void) {
   unsigned long k = 0;
   read_part(&part);
   answer = ponds_day_begin(&day, part.bytes, part.length);
+  if (ponds_check(part.bytes, part.length) != (answer == 0 ? (uint64_t)(part.length / RECORD) << 32 : answer)) {
+    printf("ponds_check says something else than ponds_begin\n");
+  }
   if (ponds_number(answer) != 0) {
     printf("plan %lu %lu\n", (unsigned long)ponds_number(answer), (unsigned long)ponds_place(answer));
     return 0;

@@ -1,7 +1,7 @@
 /* Whether the archive keeps to the rooms as ponds.h gives them. Every room ends where memory ends, so that one that is shorter than
    the archive takes it to be stops the program; every room that a call may only read cannot be written while it runs; every room
-   that it fills is filled to its end, whatever it held before, so that one that is longer shows; and a refusal leaves every
-   byte. Prints what is wrong, and ends with status 1. */
+   that it fills is filled to its end, whatever it held before, so that one that is longer shows; a refusal leaves every byte; and
+   rooms of any content are answered. Prints what is wrong, and ends with status 1. */
 #define _DEFAULT_SOURCE
 #include "plans.h"
 #include <signal.h>
@@ -222,6 +222,31 @@ static void play(void) {
   writes(&CALENDAR, 1, 52);
 }
 
+/* Rooms of any content: each call is answered, and nothing else is touched. */
+static void any_content(void) {
+  static uint8_t record[RECORD];
+  uint32_t seed = 1;
+  size_t i;
+  int turn, k;
+  for (turn = 0; turn < 200; turn++) {
+    for (k = LINKS; k <= KEPT; k++) {
+      for (i = 0; i < rooms[k].size; i++) {
+        seed = seed * 1664525u + 1013904223u;
+        /* Anything, or numbers that are small, as true ones are. */
+        rooms[k].at[i] = turn % 4 == 0 || (turn % 4 == 1 && i % 4 == 0) ? (uint8_t)(seed >> 24) : turn % 4 == 2 ? 255 : 0;
+      }
+    }
+    ponds_event(record, seed >> 16, (uint8_t)(seed >> 24) % POINTS, turn % 2 == 0 ? 0 : seed);
+    event = lend(record, RECORD);
+    (void)call(&TAKE);
+    must(call(&REPLY_TO) == 0 && call(&BOARD_OF) == 0, "it does not answer 0");
+    must(*u32(REPLY) <= PONDS_OFFERS && ponds_state(u32(REPLY), turn % POINTS) <= PONDS_OFFERED, "a reply that is none");
+  }
+  fill(ROOM(KEPT), 0x5a);
+  refuses(&VERDICT_ON, 20);
+  refuses(&CALENDAR, 20);
+}
+
 int main(void) {
   static struct file made;
   static char typed[64 * PONDS_MOST_RECORDS];
@@ -251,6 +276,7 @@ int main(void) {
   (void)fills(&WORST_OF);
   writes(&DAY, RECORD, 12);
   play();
+  any_content();
 
   make_small(&made);
   file = lend(made.bytes, made.length);

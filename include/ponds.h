@@ -97,7 +97,8 @@ uint64_t ponds_lighter(const uint8_t *file, size_t length, uint8_t *out, size_t 
 
 /* The plan file of comma-separated text from the growers' office, written to the front of `out`. With the line, counted from 0:
    40 to 43, and the reader's own numbers, for which the record is the line; 12 where `room` is too short (PONDS_MOST_FILE is
-   always enough); or 0, and beside it how many records. Bytes behind them stay as they were. */
+   always enough); or 0, and beside it how many records. Bytes behind them stay as they were. (A line past 4,294,967,295 is told as
+   that one.) */
 uint64_t ponds_import(const uint8_t *text, size_t length, uint8_t *out, size_t room) PONDS_LENT;
 
 /* ---- a day: its rooms are filled by ponds_begin, and then only `kept` changes, by ponds_take */

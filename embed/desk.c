@@ -1,5 +1,5 @@
-/* The program `desk` once more, by the C interface alone, but for `pack`: a verb and its words, standard input to standard
-   output, with its lines and its status. embed/check compares the two on drawn inputs. */
+/* The program `desk` once more, by the C interface alone, with the verbs that it has: a verb and its words, standard input to
+   standard output, with its lines and its status. embed/check compares the two on drawn inputs. */
 #include "streams.h"
 
 static struct part part;

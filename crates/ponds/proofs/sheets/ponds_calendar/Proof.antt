@@ -1,0 +1,29 @@
+-- `ponds::sheets::ponds_calendar` meets its contract. Assumes nothing.
+use borrow.Author.Needs.{needs}
+use mathlib.Core.Path.{ap, _∙_}
+use Rattle.hulls.specs.Answers.{answerWith}
+use Rattle.ponds.specs.Files.{calendarAnswer}
+use Rattle.ponds.proofs.sheets.ponds_calendar.Statement.{statement}
+use Rattle.ponds.proofs.sheets.ponds_calendar.Tie as tie
+
+calendar-file-requires : tie.Need-calendar-file-requires
+calendar-file-requires c κs = search needs
+
+half-requires : tie.Need-half-requires
+half-requires c κs = search needs
+
+answer-with-requires : tie.Need-answer-with-requires
+answer-with-requires c κs = search needs
+
+same-length : tie.Need-same-length
+same-length c = search needs
+
+returns : tie.Need-returns
+returns c =
+    let e = c .before .before .before .before .calendar-file .ensures in
+    (c .answer-with .ensures ∙ ap (answerWith (c .before .before .before .before .calendar-file .result .number) (c .before .before .before .before .calendar-file .result .place)) (c .before .half .ensures) ∙ ap calendarAnswer (e .0), e .1)
+
+pub ponds-calendar-spec : {M : Type 1} → statement M
+ponds-calendar-spec =
+    tie.close
+    (tie.spec calendar-file-requires half-requires answer-with-requires same-length returns)

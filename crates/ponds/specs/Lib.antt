@@ -1,0 +1,3 @@
+-- What the functions for other languages answer. No proofs are here.
+pub mod Files
+pub mod Days

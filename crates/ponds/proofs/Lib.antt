@@ -1,3 +1,2 @@
--- What is answered of a file, from what reading it answers, and what the engine answers over lent rooms.
-mod OfFiles
+-- What the engine answers over lent rooms.
 mod OfRooms

@@ -1,4 +1,4 @@
--- What the engine answers over lent rooms, where its links come from a room and go to one. Assumes nothing.
+-- What the engine answers over lent rooms, where its links come from a room and go to one; and a calendar's answer. Assumes nothing.
 use mathlib.Core.Path.{_≡_, refl, sym, ap, _∙_}
 use mathlib.Core.List.{List}
 use Prim.Native.Nat.{ℕ}
@@ -12,9 +12,15 @@ use Rattle.replies.specs.declared.Reply.{Reply}
 use Rattle.rooms.specs.Filling.{BeginsWith}
 use Rattle.rooms.specs.declared.Started.{Started}
 use Rattle.engine.specs.Takes.{TakesWith, RepliesWith}
-use Rattle.hulls.specs.Answers.{answerOf}
+use Rattle.calendar.specs.declared.Calendar.{Calendar}
+use Rattle.hulls.specs.Answers.{answerOf, answerWith, halfOf}
 use Rattle.hulls.specs.Rooms.{linksIn, linksRoom, replyRoom}
+use Rattle.filed.specs.Files.{calendarAnswer}
 use Rattle.ponds.specs.Days.{FilledFrom, BeginsFrom, TakesFrom, RepliesFrom}
+
+-- a calendar's answer, where x is the calendar y
+pub calendar-answer : (x y : Calendar) (h r : ℕ) → x ≡ y → h ≡ halfOf (x .length) → r ≡ answerWith (x .number) (x .place) h → r ≡ calendarAnswer y
+calendar-answer x y h r e eh er = er ∙ ap (answerWith (x .number) (x .place)) eh ∙ ap (λ (z : Calendar). answerWith (z .number) (z .place) (halfOf (z .length))) e
 
 pub replies-from : (links rows out kept : List ℕ) (l : Links) → l ≡ linksIn links → (x : Reply) → RepliesWith l rows out kept x → (room : List ℕ) → room ≡ replyRoom x
     → RepliesFrom links rows out kept room

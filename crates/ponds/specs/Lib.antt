@@ -1,3 +1,2 @@
--- What the functions for other languages answer. No proofs are here.
-pub mod Files
+-- What the engine answers over rooms that are lent. What is answered of files is in `Files` of `filed`. No proofs are here.
 pub mod Days

@@ -1,18 +1,14 @@
-// A plan file checked and tested, and its worst finishing minute with the day behind it.
+// A plan file checked and tested, its worst finishing minute, and the day behind it.
 ghost use mathlib.Core.Path.{_≡_};
 ghost use Rattle.hulls.specs.Told.{testAnswer, testRoom, worstAnswer, worstRoom};
-ghost use Rattle.ponds.specs.Files.{checkAnswer, testFile, worstFile, dayFile, dayLeft, dayAnswer};
+ghost use Rattle.filed.specs.Files.{checkAnswer, testFile, worstFile, dayFile, dayLeft, dayAnswer};
+use filed::day_file;
+use filed::test_file;
+use filed::worst_file;
 use hulls::answer_with;
 use hulls::tell_test;
 use hulls::tell_worst;
-use plan::ACCEPTED;
 use plan::read;
-use vee::Answer;
-use vee::test;
-use worst::Day;
-use worst::Worst;
-use worst::day_of;
-use worst::worst_of;
 
 // A plan file's own refusal with its record, or 0 with how many records there are.
 #[no_mangle]
@@ -21,16 +17,6 @@ pub extern "C" fn ponds_check(file: &[u8]) -> u64
 {
     let reading = read(file);
     answer_with(reading.number, reading.place, reading.plan.count)
-}
-
-fn test_file(file: &[u8]) -> Answer
-    ensures { λ r. ⌜ r ≡ testFile (now (file .entry)) ⌝ }
-{
-    let reading = read(file);
-    if reading.number != ACCEPTED {
-        return Answer::Refused(reading.number, reading.place);
-    }
-    test(reading.plan)
 }
 
 // The plan test: the plan's own refusal with its record, 13, or 0 and the answer in four numbers: 0 for yes, 1 for a cycle, 2 for a pair;
@@ -44,16 +30,6 @@ pub extern "C" fn ponds_test(file: &[u8], room: &mut [u32; 4]) -> u64
     tell_test(found, room)
 }
 
-fn worst_file(file: &[u8]) -> Worst
-    ensures { λ r. ⌜ r ≡ worstFile (now (file .entry)) ⌝ }
-{
-    let reading = read(file);
-    if reading.number != ACCEPTED {
-        return Worst::Refused(reading.number, reading.place);
-    }
-    worst_of(reading.plan)
-}
-
 // The plan's own refusal with its record, 13, 60, or 0 and in the room the worst finishing minute and the first projection that reaches it.
 #[no_mangle]
 pub extern "C" fn ponds_worst(file: &[u8], room: &mut [u32; 2]) -> u64
@@ -62,21 +38,6 @@ pub extern "C" fn ponds_worst(file: &[u8], room: &mut [u32; 2]) -> u64
 {
     let found = worst_file(file);
     tell_worst(found, room)
-}
-
-fn day_file(file: &[u8], projection: u32, out: &mut [u8]) -> Day
-    ensures reply { λ d. ⌜ d ≡ dayFile (now (file .entry)) projection (now (out .entry)) ⌝ }
-    ensures bytes { λ _. ⌜ now (out .exit) ≡ dayLeft (now (file .entry)) projection (now (out .entry)) ⌝ }
-{
-    let reading = read(file);
-    if reading.number != ACCEPTED {
-        return Day {
-            number: reading.number,
-            place: reading.place,
-            events: 0,
-        };
-    }
-    day_of(reading.plan, projection, out)
 }
 
 // The plan's own refusal with its record, 13, 60, 12, or 0 with how many events that projection's run has, and their sixteen bytes each at

@@ -1,30 +1,14 @@
 // What is said of a day at its end, by the board that an engine's room holds: the verdict, and the calendar.
 ghost use mathlib.Core.Path.{_≡_};
 ghost use Rattle.hulls.specs.Told.{verdictAnswer, verdictRoom};
-ghost use Rattle.ponds.specs.Files.{verdictFile, stampOf, calendarFile, calendarLeft, calendarAnswer};
-use calendar::Calendar;
-use calendar::write_calendar;
+ghost use Rattle.filed.specs.Files.{verdictFile, stampOf, calendarFile, calendarLeft, calendarAnswer};
 use dates::Stamp;
 use engine::KEPT;
+use filed::calendar_file;
+use filed::verdict_file;
 use hulls::answer_with;
-use hulls::board_in;
 use hulls::half;
 use hulls::tell_verdict;
-use plan::ACCEPTED;
-use plan::read;
-use verdict::Verdict;
-use verdict::verdict_of;
-
-fn verdict_file(file: &[u8], kept: &[u32; KEPT]) -> Verdict
-    ensures { λ v. ⌜ v ≡ verdictFile (now (file .entry)) (now (kept .entry)) ⌝ }
-{
-    let reading = read(file);
-    if reading.number != ACCEPTED {
-        return Verdict::Refused(reading.number, reading.place);
-    }
-    let board = board_in(kept);
-    verdict_of(reading.plan, board)
-}
 
 // The verdict: the plan's own refusal with its record, 20, 31, or 0 and in the room 0 for kept, or 1 and the broken record.
 #[no_mangle]
@@ -34,22 +18,6 @@ pub extern "C" fn ponds_verdict(file: &[u8], kept: &[u32; KEPT], room: &mut [u32
 {
     let found = verdict_file(file, kept);
     tell_verdict(found, room)
-}
-
-fn calendar_file(file: &[u8], kept: &[u32; KEPT], origin: Stamp, out: &mut [u8]) -> Calendar
-    ensures reply { λ r. ⌜ r ≡ calendarFile (now (file .entry)) (now (kept .entry)) origin (now (out .entry)) ⌝ }
-    ensures bytes { λ _. ⌜ now (out .exit) ≡ calendarLeft (now (file .entry)) (now (kept .entry)) origin (now (out .entry)) ⌝ }
-{
-    let reading = read(file);
-    if reading.number != ACCEPTED {
-        return Calendar {
-            number: reading.number,
-            place: reading.place,
-            length: 0,
-        };
-    }
-    let board = board_in(kept);
-    write_calendar(reading.plan, board, origin, out)
 }
 
 // The board as an iCalendar text, minute 0 being the date, hour and minute that are given: the plan's own refusal with its record, 20, 31,

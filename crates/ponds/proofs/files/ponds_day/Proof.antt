@@ -1,7 +1,7 @@
 -- `ponds::files::ponds_day` meets its contract. Assumes nothing.
 use borrow.Author.Needs.{needs}
 use mathlib.Core.Path.{ap, _∙_}
-use Rattle.ponds.specs.Files.{dayAnswer}
+use Rattle.filed.specs.Files.{dayAnswer}
 use Rattle.ponds.proofs.files.ponds_day.Statement.{statement}
 use Rattle.ponds.proofs.files.ponds_day.Tie as tie
 

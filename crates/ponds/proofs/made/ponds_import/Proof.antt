@@ -2,40 +2,25 @@
 use borrow.Author.Needs.{needs}
 use mathlib.Core.Path.{ap, _∙_}
 use Rattle.plan.specs.declared.Reading.{Reading}
-use Rattle.ponds.specs.Files.{importedAs, fileLeft}
-use Rattle.ponds.proofs.OfFiles.{filed-answer}
+use Rattle.filed.specs.Files.{fileLeft, filedAnswer}
 use Rattle.ponds.proofs.made.ponds_import.Statement.{statement}
 use Rattle.ponds.proofs.made.ponds_import.Tie as tie
 
-import-requires : tie.Need-import-requires
-import-requires c κs = search needs
+import-text-requires : tie.Need-import-text-requires
+import-text-requires c κs = search needs
 
-imported-as-requires : tie.Need-imported-as-requires
-imported-as-requires c κs = search needs
-
-file-plan-requires : tie.Need-file-plan-requires
-file-plan-requires c κs = search needs
-
-answer-with-requires : tie.Need-answer-with-requires
-answer-with-requires c κs = search needs
+put-plan-requires : tie.Need-put-plan-requires
+put-plan-requires c κs = search needs
 
 same-length : tie.Need-same-length
 same-length c = search needs
 
 returns : tie.Need-returns
 returns c =
-    let e = c .before .before .before .before .before .imported-as .ensures ∙ ap importedAs (c .before .before .before .before .before .before .import .ensures) in
-    let o = c .before .before .before .before .before .before .before .before .before .args .out .now in
-    let f = c .before .before .before .file-plan .ensures in
-    (filed-answer _ o _ _ _ e (f .0) (c .answer-with .ensures), f .1 ∙ ap (λ (x : Reading). fileLeft x o) e)
+    let p = c .before .before .put-plan .ensures in
+    let e = c .before .before .before .before .import-text .ensures in
+    let o = c .before .before .before .before .before .before .before .args .out .now in
+    (p .0 ∙ ap (λ (x : Reading). filedAnswer x o) e, p .1 ∙ ap (λ (x : Reading). fileLeft x o) e)
 
 pub ponds-import-spec : {M : Type 1} → statement M
-ponds-import-spec =
-    tie.close
-    (tie.spec
-    import-requires
-    imported-as-requires
-    file-plan-requires
-    answer-with-requires
-    same-length
-    returns)
+ponds-import-spec = tie.close (tie.spec import-text-requires put-plan-requires same-length returns)

@@ -1,8 +1,6 @@
 -- `ponds::sheets::ponds_calendar` meets its contract. Assumes nothing.
 use borrow.Author.Needs.{needs}
-use mathlib.Core.Path.{ap, _∙_}
-use Rattle.hulls.specs.Answers.{answerWith}
-use Rattle.ponds.specs.Files.{calendarAnswer}
+use Rattle.ponds.proofs.OfRooms.{calendar-answer}
 use Rattle.ponds.proofs.sheets.ponds_calendar.Statement.{statement}
 use Rattle.ponds.proofs.sheets.ponds_calendar.Tie as tie
 
@@ -21,7 +19,7 @@ same-length c = search needs
 returns : tie.Need-returns
 returns c =
     let e = c .before .before .before .before .calendar-file .ensures in
-    (c .answer-with .ensures ∙ ap (answerWith (c .before .before .before .before .calendar-file .result .number) (c .before .before .before .before .calendar-file .result .place)) (c .before .half .ensures) ∙ ap calendarAnswer (e .0), e .1)
+    (calendar-answer _ _ _ _ (e .0) (c .before .half .ensures) (c .answer-with .ensures), e .1)
 
 pub ponds-calendar-spec : {M : Type 1} → statement M
 ponds-calendar-spec =

@@ -1,12 +1,12 @@
--- `ponds::files::test_file` meets its contract. Assumes nothing.
+-- `filed::files::test_file` meets its contract. Assumes nothing.
 use borrow.Author.Needs.{needs}
 use mathlib.Core.Path.{_∙_}
 use Rattle.vee.specs.TestOf.{testOf}
 use Rattle.vee.specs.declared.Answer.the-variants.{Refused}
 use Rattle.vee.proofs.Executable.{test-is}
-use Rattle.ponds.proofs.OfFiles.{of-read, of-refused}
-use Rattle.ponds.proofs.files.test_file.Statement.{statement}
-use Rattle.ponds.proofs.files.test_file.Tie as tie
+use Rattle.filed.proofs.OfFiles.{of-read, of-refused}
+use Rattle.filed.proofs.files.test_file.Statement.{statement}
+use Rattle.filed.proofs.files.test_file.Tie as tie
 
 read-requires : tie.Need-read-requires
 read-requires c κs = search needs

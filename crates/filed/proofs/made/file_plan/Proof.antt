@@ -1,9 +1,9 @@
--- `ponds::made::file_plan` meets its contract. Assumes nothing.
+-- `filed::made::file_plan` meets its contract. Assumes nothing.
 use borrow.Author.Needs.{needs}
 use mathlib.Core.Path.{_∙_}
-use Rattle.ponds.proofs.OfFiles.{filed, filed-left, unfiled, unfiled-left}
-use Rattle.ponds.proofs.made.file_plan.Statement.{statement}
-use Rattle.ponds.proofs.made.file_plan.Tie as tie
+use Rattle.filed.proofs.OfFiles.{filed, filed-left, unfiled, unfiled-left}
+use Rattle.filed.proofs.made.file_plan.Statement.{statement}
+use Rattle.filed.proofs.made.file_plan.Tie as tie
 
 returns : tie.Need-returns
 returns c = (unfiled _ _ (c .if1 .taken), unfiled-left _ _ (c .if1 .taken))

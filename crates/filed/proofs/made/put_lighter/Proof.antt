@@ -1,10 +1,10 @@
--- `ponds::made::put_lighter` meets its contract. Assumes nothing.
+-- `filed::made::put_lighter` meets its contract. Assumes nothing.
 use borrow.Author.Needs.{needs}
 use mathlib.Core.Path.{refl}
-use Rattle.ponds.specs.Files.{planIn}
-use Rattle.ponds.proofs.OfFiles.{filed-answer, dropped-is}
-use Rattle.ponds.proofs.made.put_lighter.Statement.{statement}
-use Rattle.ponds.proofs.made.put_lighter.Tie as tie
+use Rattle.filed.specs.Files.{planIn}
+use Rattle.filed.proofs.OfFiles.{filed-answer, dropped-is}
+use Rattle.filed.proofs.made.put_lighter.Statement.{statement}
+use Rattle.filed.proofs.made.put_lighter.Tie as tie
 
 file-plan-requires : tie.Need-file-plan-requires
 file-plan-requires c κs = search needs

@@ -1,9 +1,9 @@
--- `ponds::made::imported_as` meets its contract. Assumes nothing.
+-- `filed::made::imported_as` meets its contract. Assumes nothing.
 use borrow.Author.Needs.{needs}
 use Prim.Native.Nat.{ℕ}
 use mathlib.Core.Path.{ap}
-use Rattle.ponds.proofs.made.imported_as.Statement.{statement}
-use Rattle.ponds.proofs.made.imported_as.Tie as tie
+use Rattle.filed.proofs.made.imported_as.Statement.{statement}
+use Rattle.filed.proofs.made.imported_as.Tie as tie
 
 half-requires : tie.Need-half-requires
 half-requires c κs = search needs

@@ -1,11 +1,11 @@
--- `ponds::files::worst_file` meets its contract. Assumes nothing.
+-- `filed::files::worst_file` meets its contract. Assumes nothing.
 use borrow.Author.Needs.{needs}
 use mathlib.Core.Path.{_∙_}
 use Rattle.worst.specs.WorstMinute.{worstOf}
 use Rattle.worst.specs.declared.Worst.the-variants.{Refused}
-use Rattle.ponds.proofs.OfFiles.{of-read, of-refused}
-use Rattle.ponds.proofs.files.worst_file.Statement.{statement}
-use Rattle.ponds.proofs.files.worst_file.Tie as tie
+use Rattle.filed.proofs.OfFiles.{of-read, of-refused}
+use Rattle.filed.proofs.files.worst_file.Statement.{statement}
+use Rattle.filed.proofs.files.worst_file.Tie as tie
 
 read-requires : tie.Need-read-requires
 read-requires c κs = search needs

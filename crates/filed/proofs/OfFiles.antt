@@ -13,8 +13,8 @@ use Rattle.board.specs.declared.Board.{Board}
 use Rattle.lighter.specs.Lighter.{LighterOf}
 use Rattle.lighter.specs.declared.Lighter.{Lighter}
 use Rattle.hulls.specs.Answers.{answerOf, answerWith}
-use Rattle.ponds.specs.Files.{ofFile, filedOf, fileLeft, filedAnswer, planIn, droppedLeft, LighterWritten}
-use Rattle.ponds.specs.Files.LighterWritten.{unread, made}
+use Rattle.filed.specs.Files.{ofFile, filedOf, fileLeft, filedAnswer, planIn, droppedLeft, LighterWritten}
+use Rattle.filed.specs.Files.LighterWritten.{unread, made}
 
 -- x is what reading the bytes s answers
 module _ {A : Type 0} (s : List ℕ) (f : Plan → A) (g : ℕ → ℕ → A) (x : Reading) (e : x ≡ readOf s) where

@@ -1,13 +1,13 @@
--- `ponds::sheets::verdict_file` meets its contract. Assumes nothing.
+-- `filed::sheets::verdict_file` meets its contract. Assumes nothing.
 use borrow.Author.Needs.{needs}
 use Rattle.plan.specs.declared.Plan.{Plan}
 use Rattle.board.specs.declared.Board.{Board}
 use Rattle.verdict.specs.Verdicts.{verdictOf}
 use Rattle.verdict.specs.declared.Verdict.the-variants.{Refused}
 use Rattle.hulls.specs.Rooms.{boardIn}
-use Rattle.ponds.proofs.OfFiles.{of-refused, by-board}
-use Rattle.ponds.proofs.sheets.verdict_file.Statement.{statement}
-use Rattle.ponds.proofs.sheets.verdict_file.Tie as tie
+use Rattle.filed.proofs.OfFiles.{of-refused, by-board}
+use Rattle.filed.proofs.sheets.verdict_file.Statement.{statement}
+use Rattle.filed.proofs.sheets.verdict_file.Tie as tie
 
 read-requires : tie.Need-read-requires
 read-requires c κs = search needs

@@ -1,12 +1,12 @@
--- `ponds::made::close_file` meets its contract. Assumes nothing.
+-- `filed::made::close_file` meets its contract. Assumes nothing.
 use borrow.Author.Needs.{needs}
 use Prim.Native.Nat.{ℕ}
 use mathlib.Core.Path.{_∙_}
 use Rattle.plan.specs.ReplyNumbers.{readOf}
 use Rattle.closure.specs.Closing.{closeOf}
-use Rattle.ponds.proofs.OfFiles.{of-read, of-refused}
-use Rattle.ponds.proofs.made.close_file.Statement.{statement}
-use Rattle.ponds.proofs.made.close_file.Tie as tie
+use Rattle.filed.proofs.OfFiles.{of-read, of-refused}
+use Rattle.filed.proofs.made.close_file.Statement.{statement}
+use Rattle.filed.proofs.made.close_file.Tie as tie
 
 read-requires : tie.Need-read-requires
 read-requires c κs = search needs

@@ -1,8 +1,8 @@
--- `ponds::made::ponds_lighter` meets its contract. Assumes nothing.
+-- `filed::made::lighter_file` meets its contract. Assumes nothing.
 use borrow.Author.Needs.{needs}
-use Rattle.ponds.proofs.OfFiles.{lighter-unread, lighter-made}
-use Rattle.ponds.proofs.made.ponds_lighter.Statement.{statement}
-use Rattle.ponds.proofs.made.ponds_lighter.Tie as tie
+use Rattle.filed.proofs.OfFiles.{lighter-unread, lighter-made}
+use Rattle.filed.proofs.made.lighter_file.Statement.{statement}
+use Rattle.filed.proofs.made.lighter_file.Tie as tie
 
 read-requires : tie.Need-read-requires
 read-requires c κs = search needs
@@ -25,8 +25,8 @@ same-length c = search needs
 returns-2 : tie.Need-returns-2
 returns-2 c = let p = c .before .before .put-lighter .ensures in lighter-made _ _ _ _ (c .before .before .before .before .before .before .before .before .read .ensures) _ _ _ _ (c .before .before .before .before .before .before .if1 .left) (c .before .before .before .before .before .lighter-of .ensures) (p .0) (p .1 .0) (p .1 .1)
 
-pub ponds-lighter-spec : {M : Type 1} → statement M
-ponds-lighter-spec =
+pub lighter-file-spec : {M : Type 1} → statement M
+lighter-file-spec =
     tie.close
     (tie.spec
     read-requires

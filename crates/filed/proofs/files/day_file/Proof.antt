@@ -1,12 +1,12 @@
--- `ponds::files::day_file` meets its contract. Assumes nothing.
+-- `filed::files::day_file` meets its contract. Assumes nothing.
 use borrow.Author.Needs.{needs}
 use Prim.Native.Nat.{ℕ}
 use mathlib.Core.Path.{_∙_}
 use Rattle.plan.specs.declared.Plan.{Plan}
 use Rattle.worst.specs.WorstMinute.{day, dayOf, dayWritten}
-use Rattle.ponds.proofs.OfFiles.{of-read, of-refused}
-use Rattle.ponds.proofs.files.day_file.Statement.{statement}
-use Rattle.ponds.proofs.files.day_file.Tie as tie
+use Rattle.filed.proofs.OfFiles.{of-read, of-refused}
+use Rattle.filed.proofs.files.day_file.Statement.{statement}
+use Rattle.filed.proofs.files.day_file.Tie as tie
 
 read-requires : tie.Need-read-requires
 read-requires c κs = search needs

@@ -26,10 +26,10 @@ returns : tie.Need-returns
 returns c = (rw (c .before .before .found .given .1) (c .answer .ensures), rw (c .before .before .found .given .1) refl)
 
 returns-2 : tie.Need-returns-2
-returns-2 c = search needs
+returns-2 c = (rw (c .before .before .enum-told .given .1) (c .two .ensures .0), rw (c .before .before .enum-told .given .1) (c .two .ensures .1))
 
 returns-3 : tie.Need-returns-3
-returns-3 c = search needs
+returns-3 c = (rw (c .before .before .before .found2 .given .1) (c .two2 .ensures .0), rw (c .before .before .before .found2 .given .1) (c .two2 .ensures .1))
 
 pub tell-verdict-spec : {M : Type 1} → statement M
 tell-verdict-spec =

@@ -5,12 +5,15 @@ use crate::calendars;
 use crate::damage;
 use crate::draw::Draw;
 use crate::events::MARK;
+use crate::explains;
 use crate::inputs;
 use crate::lighters;
 use crate::links;
 use crate::listings;
+use crate::lists;
 use crate::plans::{self, Sizes, FULL};
 use crate::texts;
+use crate::wraps::{self, WRAPS};
 use oracle::board::{self, Board, Outcome, Place};
 use oracle::close;
 use oracle::event;
@@ -19,8 +22,8 @@ use oracle::plan_test::{self, Answer};
 use oracle::worst;
 
 /// The verbs that can be compared.
-pub const VERBS: [&str; 8] = [
-    "test", "worst", "day", "import", "close", "calendar", "lighter", "pack",
+pub const VERBS: [&str; 10] = [
+    "test", "worst", "day", "import", "close", "calendar", "lighter", "pack", "list", "explain",
 ];
 
 /// Numbers that reading a plan file gives.
@@ -53,6 +56,8 @@ fn kinds(verb: &str) -> usize {
         "calendar" => 1 + calendars::KINDS,
         "lighter" => 1 + lighters::KINDS,
         "pack" => 1 + listings::KINDS,
+        "list" => 1 + lists::KINDS,
+        "explain" => 1 + explains::KINDS,
         _ => PLANS,
     }
 }
@@ -85,6 +90,8 @@ fn of_kind(draw: &mut Draw, verb: &str, kind: usize, tour: u64) -> Vec<Ask> {
         ("calendar", kind) => calendars::batch(draw, kind - 1),
         ("lighter", kind) => lighters::batch(draw, kind - 1),
         ("pack", kind) => listings::batch(draw, kind - 1),
+        ("list", kind) => lists::batch(draw, kind - 1),
+        ("explain", kind) => explains::batch(draw, kind - 1),
         (_, kind) => about_plans(draw, verb, kind, tour),
     }
 }
@@ -287,6 +294,9 @@ fn about_plans(draw: &mut Draw, verb: &str, kind: usize, tour: u64) -> Vec<Ask> 
             let mut plan = many(draw, None);
             plans::near_miss(draw, &mut plan);
             plans.push(("about 4,096 projections, nearly", plan));
+            for wrap in WRAPS {
+                plans.push(("far too many projections", wraps::plan(draw, wrap)));
+            }
         }
         5 => {
             let mut sizes = Sizes::any(draw);
@@ -413,6 +423,7 @@ fn cases_of(verb: &str, plan: &Plan) -> Vec<String> {
         cases.push(case("no links"));
     }
     cases.extend(links::shapes(plan).into_iter().map(case));
+    cases.extend(wraps::of_plan(plan).into_iter().map(case));
     if plan.ordinary.len() > plan::OLD_ORDINARIES {
         cases.push(case("more than 256 ordinary records"));
     }
@@ -771,6 +782,9 @@ pub fn cases(verb: &str) -> Vec<String> {
         let shapes = links::SHAPES.iter();
         cases.extend(shapes.map(|shape| format!("{verb}: {shape}")));
     }
+    if ["test", "worst", "day"].contains(&verb) {
+        cases.extend(WRAPS.map(|wrap| format!("{verb}: {wrap}")));
+    }
     cases
 }
 
@@ -828,6 +842,8 @@ fn own_cases(verb: &str) -> Vec<String> {
         "calendar" => return calendars::cases(),
         "lighter" => return lighters::cases(),
         "pack" => return listings::cases(),
+        "list" => return lists::cases(),
+        "explain" => return explains::cases(),
         _ => return texts::cases(),
     };
     all.iter().map(|what| format!("{verb}: {what}")).collect()

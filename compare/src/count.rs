@@ -1,9 +1,11 @@
 //! Counts what came up in what was printed: reply numbers, endings, the replies and tests that `offers` prints, and the
 //! answers of the probe; and what links and boards there were in the inputs.
 
+use crate::corners::CORNERS;
 use crate::links::{EVENTS, SHAPES, TENS};
 use crate::shut;
 use crate::soundness;
+use crate::wraps::WRAPS;
 use std::collections::BTreeMap;
 
 /// What must come up in the lines of both printing programs: numbers on the plan line, numbers of events, and endings.
@@ -13,9 +15,12 @@ fn printing() -> Vec<String> {
     let event = std::iter::once(0).chain(21..=30);
     let event = event.map(|number| format!("event {number}"));
     let endings = ["end kept", "end broken", "end stuck", "end open", "tail"];
-    let endings = endings.into_iter().map(str::to_string);
+    let endings = endings.into_iter().chain(FAR).map(str::to_string);
     plan.chain(event).chain(endings).collect()
 }
+
+/// Events past what 16 bits can count.
+const FAR: [&str; 2] = ["taken past event 65535", "refused past event 65535"];
 
 /// What must come up besides in the lines of `offers`.
 const OFFERS: [&str; 19] = [
@@ -87,16 +92,17 @@ fn expected(name: &str) -> Vec<String> {
         let why = shut::LISTS.iter().chain(&shut::TOLD);
         let why = why.chain(&shut::STREAMED);
         all.extend(why.map(|key| key.to_string()));
+        all.extend(WRAPS.iter().chain(&CORNERS).map(|key| key.to_string()));
         return all;
     }
     all.extend(printing());
     if name == "offers" {
         all.extend(OFFERS.map(str::to_string));
         let why = shut::LISTS.iter().chain(&shut::TOLD);
-        all.extend(why.map(|key| key.to_string()));
+        all.extend(why.chain(&WRAPS).map(|key| key.to_string()));
     }
     let links = SHAPES.iter().chain(&TENS).chain(&EVENTS);
-    all.extend(links.map(|key| key.to_string()));
+    all.extend(links.chain(&CORNERS).map(|key| key.to_string()));
     all
 }
 
@@ -188,6 +194,18 @@ fn key(line: &str) -> String {
     }
 }
 
+/// Of the line of an event past 65,535: was it taken?
+fn far(line: &str) -> Option<&'static str> {
+    let words: Vec<&str> = line.split(' ').collect();
+    let (event, number) = match words[..] {
+        ["event", event, number, ..] => (event, number),
+        [event, number, _, _] => (event, number),
+        _ => return None,
+    };
+    let far = event.parse::<u64>().is_ok_and(|event| event > 65_535);
+    far.then_some(FAR[usize::from(number != "0")])
+}
+
 /// The keys of the lines of a printing program: of each line by itself, and of a board's list with its outcome.
 fn printed_keys(text: &str) -> Vec<String> {
     let mut keys = Vec::new();
@@ -207,6 +225,7 @@ fn printed_keys(text: &str) -> Vec<String> {
         if key.starts_with("board ") {
             board.clone_from(&key);
         }
+        keys.extend(far(line).map(str::to_string));
         // What is told of 28 is a 28.
         if key.starts_with("event 28 ") {
             keys.push("event 28".to_string());

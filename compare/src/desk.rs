@@ -3,6 +3,7 @@
 use crate::asks::{self, Ask, READING};
 use crate::count::Count;
 use crate::draw::Draw;
+use crate::explains;
 use crate::icalendar;
 use crate::programs::{Shown, Way};
 use crate::texts;
@@ -47,9 +48,15 @@ pub struct Compared {
 }
 
 /// Do they differ, or does one end as `desk` never does? The line about wrong usage is each program's own: it must be one
-/// line that names every verb that is compared, and nothing else is said. The line about a listing that is too much is not.
-pub fn differ(verbs: &[&str], ours: &Shown, theirs: &Shown) -> bool {
-    let [ours, theirs] = [ours, theirs].map(|shown| plain(verbs, shown));
+/// line that names every verb that is compared, and nothing else is said. The line about a listing that is too much is not. So
+/// are the steps of an explanation, which are checked by themselves.
+pub fn differ(verbs: &[&str], words: &[String], ours: &Shown, theirs: &Shown) -> bool {
+    let [mut ours, mut theirs] = [ours, theirs].map(|shown| plain(verbs, shown));
+    if words == ["explain"] {
+        for shown in [&mut ours, &mut theirs] {
+            shown.bytes = explains::fixed(&shown.bytes);
+        }
+    }
     ours != theirs || !ENDINGS.contains(&ours.ended.as_str())
 }
 
@@ -75,18 +82,27 @@ fn too_much(shown: &Shown) -> bool {
 }
 
 /// What is wrong with what was said, where that can be told without the other program: a calendar is read again and held to
-/// the sheet.
+/// the sheet, a listing is packed again, and an explanation held to the plan.
 pub fn fault(words: &[String], input: &[u8], shown: &Shown) -> Option<String> {
-    let [verb, origin @ ..] = words else {
+    let [verb, rest @ ..] = words else {
         return None;
     };
-    if verb != "calendar" || shown.ended != ENDINGS[0] {
+    if shown.ended != ENDINGS[0] {
         return None;
     }
-    let numbers: Option<Vec<i64>> = origin.iter().map(|word| word.parse().ok()).collect();
-    match numbers.and_then(|numbers| numbers.try_into().ok()) {
-        Some(origin) => icalendar::fault(input, origin, &shown.bytes),
-        None => Some("a calendar of words that are none".to_string()),
+    match (verb.as_str(), rest) {
+        ("calendar", origin) => {
+            let numbers: Option<Vec<i64>> = origin.iter().map(|word| word.parse().ok()).collect();
+            match numbers.and_then(|numbers| numbers.try_into().ok()) {
+                Some(origin) => icalendar::fault(input, origin, &shown.bytes),
+                None => Some("a calendar of words that are none".to_string()),
+            }
+        }
+        ("list", []) if pack::pack(&shown.bytes).as_deref() != Ok(input) => {
+            Some("a listing that is not packed to the same bytes".to_string())
+        }
+        ("explain", []) => explains::checked(input, &shown.bytes).err(),
+        _ => None,
     }
 }
 
@@ -102,7 +118,10 @@ fn keys(ask: &Ask, shown: &Shown) -> Vec<String> {
     if verb == "lighter" && shown.ended == ENDINGS[0] {
         return vec![dropped(&shown.errors)];
     }
-    let file = !matches!(verb, "test" | "worst");
+    if verb == "explain" && shown.ended == ENDINGS[0] {
+        return explained(ask, shown);
+    }
+    let file = !matches!(verb, "test" | "worst" | "explain");
     if file && shown.ended == ENDINGS[0] && shown.errors.is_empty() {
         return vec![format!("{verb} file")];
     }
@@ -133,6 +152,7 @@ fn keys(ask: &Ask, shown: &Shown) -> Vec<String> {
         _ if !silent.is_empty() || line.contains('\n') => {}
         ("pack", _) if refused && expected().is_some() => return expected().unwrap_or_default(),
         ("import", ["import", number, _]) if refused => return vec![format!("import {number}")],
+        ("explain", ["test", number]) if refused => return vec![format!("explain {number}")],
         (_, ["plan", number, _]) if refused => return vec![format!("{verb} plan {number}")],
         (_, [name, number]) if refused && *name == verb => return vec![format!("{verb} {number}")],
         ("test", ["test", "yes", _]) if !refused => return vec!["test yes".to_string()],
@@ -142,6 +162,21 @@ fn keys(ask: &Ask, shown: &Shown) -> Vec<String> {
         _ => {}
     }
     vec![format!("unknown answer to {verb}: {line:?}")]
+}
+
+/// What came up in an explanation.
+fn explained(ask: &Ask, shown: &Shown) -> Vec<String> {
+    let text = String::from_utf8_lossy(&shown.bytes);
+    let first = text.lines().next().unwrap_or("");
+    let words: Vec<&str> = first.split(' ').collect();
+    let mut keys = explains::checked(&ask.input, &shown.bytes).unwrap_or_default();
+    if let ["test", answer @ ("cycle" | "pair"), at, ..] = words[..] {
+        keys.push(format!("explain {answer}"));
+        if at != "0" {
+            keys.push(format!("explain {answer} past projection 0"));
+        }
+    }
+    keys
 }
 
 /// What came up in the lines about the records that went.
@@ -178,6 +213,15 @@ pub fn expected(verbs: &[&str]) -> Vec<String> {
             "calendar" => &["file", "31", "51"],
             "lighter" => &["dropped none", "dropped some", "13", "60"],
             "pack" => &["file", "too much"],
+            "list" => &["file"],
+            "explain" => &[
+                "yes",
+                "cycle",
+                "cycle past projection 0",
+                "pair",
+                "pair past projection 0",
+                "13",
+            ],
             _ => &["file", "40", "41", "42", "43"],
         };
         let own = own.iter().map(|own| own.to_string());
@@ -192,6 +236,10 @@ pub fn expected(verbs: &[&str]) -> Vec<String> {
         };
         all.extend(said.into_iter().map(|said| format!("{verb} {said}")));
         all.extend(asks::cases(verb));
+    }
+    // What `list` prints is packed too.
+    if verbs.contains(&"list") && !verbs.contains(&"pack") {
+        all.push("pack file".to_string());
     }
     all
 }
@@ -280,7 +328,7 @@ fn work(worker: usize, shared: &Shared) -> io::Result<Option<Found>> {
             let way = way(&mut draw, &ask);
             let (ours, theirs) = (shared.run)(worker, &ask, way)?;
             let fault = fault(&ask.words, &ask.input, &ours);
-            if fault.is_some() || differ(shared.verbs, &ours, &theirs) {
+            if fault.is_some() || differ(shared.verbs, &ask.words, &ours, &theirs) {
                 return Ok(Some(Found {
                     batch,
                     k,

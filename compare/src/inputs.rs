@@ -1,5 +1,6 @@
 //! Draws whole inputs in batches: a plan part, the mark, events, and an unfinished last record now and then.
 
+use crate::corners;
 use crate::damage;
 use crate::draw::Draw;
 use crate::events::{self, Style, MARK, STYLES};
@@ -49,6 +50,10 @@ pub fn batch(draw: &mut Draw, number: u64) -> Vec<Input> {
     let mut inputs = of_kind(draw, number);
     if rare::is_due(number) {
         inputs.extend(rare::inputs(draw));
+    }
+    // It takes its time: some megabytes are printed of it.
+    if number % 400 == 2 {
+        inputs.push(input("more than 65,536 events", corners::long_stream(draw)));
     }
     inputs
 }

@@ -2,16 +2,20 @@
 
 pub mod asks;
 pub mod calendars;
+pub mod corners;
 pub mod count;
 pub mod damage;
 pub mod desk;
 pub mod draw;
 pub mod events;
+pub mod explains;
+pub mod fewest;
 pub mod icalendar;
 pub mod inputs;
 pub mod lighters;
 pub mod links;
 pub mod listings;
+pub mod lists;
 pub mod plans;
 pub mod player;
 pub mod printed;
@@ -23,3 +27,4 @@ pub mod shut;
 pub mod smaller;
 pub mod soundness;
 pub mod texts;
+pub mod wraps;

@@ -2,6 +2,8 @@
 //! and what of them has come up in an input.
 
 use crate::events::MARK;
+use crate::requests::TEST;
+use crate::wraps;
 use oracle::board::{self, Board};
 use oracle::event;
 use oracle::plan::{self, Link, Plan, RawPlan, RawRecord, RECORD, ROOM};
@@ -135,7 +137,8 @@ fn ten(kind: u8) -> &'static str {
     TENS[usize::from(kind == 4)]
 }
 
-/// What comes up in requests of the probe: plans about which something is asked.
+/// What comes up in requests of the probe: plans about which something is asked, and of those that are tested also how many
+/// projections they have.
 pub fn of_requests(requests: &[u8]) -> Vec<&'static str> {
     let mut raw = RawPlan::empty();
     let (mut next, mut new) = (0u32, false);
@@ -159,6 +162,9 @@ pub fn of_requests(requests: &[u8]) -> Vec<&'static str> {
             16..=21 | 23 | 24 if new => {
                 new = false;
                 let of_plan = match plan::check(&raw) {
+                    Ok(plan) if request[0] == TEST => {
+                        [shapes(&plan), wraps::of_plan(&plan)].concat()
+                    }
                     Ok(plan) => shapes(&plan),
                     Err((10, record)) => vec![ten(raw.records[record as usize].kind)],
                     Err(_) => Vec::new(),

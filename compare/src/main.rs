@@ -2,6 +2,7 @@
 //! Started by compare/run from the folder above. A program NAME is OURSNAME on our side and THEIRSNAME on the other;
 //! WORDS start a program of ours where it can't be started by itself.
 
+use compare::corners;
 use compare::count::{self, Count};
 use compare::draw::Draw;
 use compare::inputs::{self, Input};
@@ -11,6 +12,7 @@ use compare::requests;
 use compare::shut;
 use compare::smaller;
 use compare::soundness;
+use compare::wraps;
 use std::io;
 use std::path::{Path, PathBuf};
 use std::process::ExitCode;
@@ -182,13 +184,15 @@ fn work(pairs: &[Both], shared: &Shared) -> io::Result<Option<Found>> {
                     let of_links = links::of_requests(&input.bytes);
                     [of_links, soundness::of_requests(&input.bytes)].concat()
                 } else {
-                    links::of_input(&input.bytes)
+                    let of_links = links::of_input(&input.bytes);
+                    [of_links, corners::of_input(&input.bytes)].concat()
                 };
-                // The printing program of document 01 tells nothing of why.
+                // The printing program of document 01 tells nothing of why, and tests no plan.
                 let why = match probe {
                     true => shut::of_requests(&input.bytes),
                     false if pairs.iter().any(|both| both.name == "offers") => {
-                        shut::of_input(&input.bytes)
+                        let of_plan = wraps::of_input(&input.bytes);
+                        [shut::of_input(&input.bytes), of_plan].concat()
                     }
                     false => Vec::new(),
                 };

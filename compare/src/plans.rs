@@ -299,7 +299,7 @@ pub fn passing_larger(draw: &mut Draw) -> Plan {
 }
 
 /// Adds or tightens a record, or adds a wait, for each pair that the test names; none if that leads nowhere.
-fn repaired(mut plan: Plan, rounds: usize) -> Option<Plan> {
+pub fn repaired(mut plan: Plan, rounds: usize) -> Option<Plan> {
     if plan_test::projections(&plan).is_none_or(|count| count > 64) {
         return None;
     }

@@ -1,5 +1,6 @@
 //! Draws what comes up rarely otherwise: each thing is drawn until it does, so that a few inputs hold all of it.
 
+use crate::corners::{self, Met, CORNERS};
 use crate::damage;
 use crate::draw::Draw;
 use crate::events::{self, Style, MARK};
@@ -9,6 +10,7 @@ use crate::plans;
 use crate::requests::{self, Requests, CHECK, JUDGE, NUMBERS, READ, REPLY, TAKE, TEST, WRITE};
 use crate::shut;
 use crate::soundness;
+use crate::wraps::{self, WRAPS};
 use oracle::board::{self, Board, Outcome};
 use oracle::event;
 use oracle::plan::{self, Link, Plan, RawRecord, RECORD, ROOM};
@@ -171,6 +173,16 @@ pub fn inputs(draw: &mut Draw) -> Vec<Input> {
         let events = events::stream(draw, &plan, Style::Mixed);
         add("a ring of links", &plan.to_bytes(), &events);
     }
+    for wrap in WRAPS {
+        let plan = wraps::plan(draw, wrap);
+        add(wrap, &plan.to_bytes(), &events::record(0, 0, 0));
+    }
+    for corner in CORNERS {
+        let Met {
+            plan, run, event, ..
+        } = corners::met(draw, corner);
+        add(corner, &plan.to_bytes(), &[&run[..], &event].concat());
+    }
     let at_once = |plan: &Plan| {
         let at = Board::fresh();
         let shut = board::held_by(plan, &at).iter().any(|all| !all.is_empty());
@@ -299,7 +311,7 @@ fn refusals(draw: &mut Draw) -> Requests {
     requests
 }
 
-/// Events that are refused with each number from 23 on.
+/// Events that are refused with each number from 23 on, and those of each corner.
 fn wrong_events(draw: &mut Draw) -> Requests {
     let mut requests = Requests::default();
     let numbers = (23..=30).map(|number| (number, false));
@@ -313,6 +325,15 @@ fn wrong_events(draw: &mut Draw) -> Requests {
             requests.buffer(&event, RECORD, 0);
             requests.call(TAKE);
         }
+    }
+    for corner in CORNERS {
+        let Met {
+            plan, at, event, ..
+        } = corners::met(draw, corner);
+        requests.plan(&plan);
+        requests.board(&at);
+        requests.buffer(&event, RECORD, 0);
+        requests.call(TAKE);
     }
     requests
 }
@@ -346,6 +367,10 @@ fn shapes(draw: &mut Draw) -> Requests {
     let past = |plan: &Plan| plan_test::projections(plan).is_none();
     if let Some(plan) = until(draw, many, past) {
         requests.plan(&plan);
+        requests.call(TEST);
+    }
+    for wrap in WRAPS {
+        requests.plan(&wraps::plan(draw, wrap));
         requests.call(TEST);
     }
     let plan = plans::trucks(draw, 2, false);
@@ -428,12 +453,20 @@ mod tests {
         for batch in 0..24 {
             let draw = &mut Draw::new(6, batch);
             let (printed, asked) = (inputs(draw), requests(draw));
-            let of_printed =
-                |bytes: &[u8]| [links::of_input(bytes), shut::of_input(bytes)].concat();
+            let of_printed = |bytes: &[u8]| {
+                let of = [
+                    links::of_input,
+                    shut::of_input,
+                    corners::of_input,
+                    wraps::of_input,
+                ];
+                of.map(|of| of(bytes)).concat()
+            };
             let found: Vec<&str> = printed.iter().flat_map(|i| of_printed(&i.bytes)).collect();
             let links = links::SHAPES.iter().chain(&links::TENS);
             let why = shut::LISTS.iter().chain(&shut::TOLD);
-            let both: Vec<&str> = links.chain(why).copied().collect();
+            let last = WRAPS.iter().chain(&CORNERS);
+            let both: Vec<&str> = links.chain(why).chain(last).copied().collect();
             for key in both.iter().chain(&links::EVENTS) {
                 assert!(found.contains(key), "{batch}: {key}");
             }

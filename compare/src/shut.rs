@@ -1,5 +1,6 @@
 //! Why points are shut (document 02, "Why is it shut?"): what of it comes up in inputs and in requests.
 
+use crate::corners::{self, CORNERS};
 use crate::events::MARK;
 use crate::requests::{SAID, STREAM_ROOM};
 use oracle::board::{self, Board, Outcome, PLACES};
@@ -48,6 +49,8 @@ struct Found {
     lists: [bool; LISTS.len()],
     told: [bool; TOLD.len()],
     streamed: [bool; STREAMED.len()],
+    /// Of events of the probe only: those of inputs are looked at in `corners.rs`.
+    corners: [bool; CORNERS.len()],
 }
 
 impl Found {
@@ -56,6 +59,7 @@ impl Found {
         let told = TOLD.iter().zip(&self.told);
         let streamed = STREAMED.iter().zip(&self.streamed);
         let all = lists.chain(told).chain(streamed);
+        let all = all.chain(CORNERS.iter().zip(&self.corners));
         all.filter(|(_, is)| **is).map(|(key, _)| *key).collect()
     }
 
@@ -103,6 +107,10 @@ impl Found {
     /// A sound board, and what is said of an event; answers the board handed back.
     fn take(&mut self, plan: &Plan, at: &Board, event: &[u8], stream: bool) -> Board {
         let ((number, record), after) = event::take(plan, at, event);
+        let corner = corners::of_event(plan, at, event, number);
+        for (key, found) in CORNERS.iter().zip(&mut self.corners) {
+            *found |= corner == Some(*key);
+        }
         if number == 28 {
             let v = usize::from(event[4]);
             let waits = (plan.points() + plan.links.len() + plan.ordinary.len()) as u32;
@@ -164,6 +172,7 @@ pub fn of_input(input: &[u8]) -> Vec<&'static str> {
             found.list(&plan, &at);
         }
     }
+    found.corners = Default::default();
     found.keys()
 }
 

@@ -65,10 +65,11 @@ fn the_same_agree_and_all_comes_up() {
         asks
     };
     let asks = all_comes_up(&asks::VERBS, 1);
-    assert!((700..1_500).contains(&asks), "{asks}");
+    assert!((900..2_000).contains(&asks), "{asks}");
     for seed in 2..8 {
         // A verb left out is not waited for.
         all_comes_up(&["import", "close", "calendar", "lighter", "pack"], seed);
+        all_comes_up(&["list", "explain"], seed);
     }
 }
 
@@ -1519,7 +1520,7 @@ fn right_fault(plan: &Plan, durations: &[i64]) -> Option<Fault> {
     plan_test::fault(plan.points(), &plan_test::edges(plan, durations))
 }
 
-const TESTERS: [(&str, Tester); 8] = [
+const TESTERS: [(&str, Tester); 10] = [
     ("a ring passes", |plan| {
         tested(plan, |p| {
             right_fault(plan, p).filter(|fault| *fault != Fault::Cycle || !links::ringed(plan))
@@ -1564,9 +1565,29 @@ const TESTERS: [(&str, Tester); 8] = [
         },
     ),
     ("4,097 projections are tried", |plan| {
-        let count = plan.links.iter().map(|link| link.y - link.x + 1).product();
-        match count {
-            4_097i64 => Ok(Answer::Yes(4_097)),
+        let spans = plan.links.iter().map(|link| link.y - link.x + 1);
+        match spans.fold(1, i64::saturating_mul) {
+            4_097 => Ok(Answer::Yes(4_097)),
+            _ => plan_test::plan_test(plan),
+        }
+    }),
+    ("projections are counted in 32 bits", |plan| {
+        let spans = plan.links.iter().map(|link| (link.y - link.x + 1) as u32);
+        match (
+            plan_test::projections(plan),
+            spans.fold(1, u32::wrapping_mul),
+        ) {
+            (None, few @ 0..=4_096) => Ok(Answer::Yes(few)),
+            _ => plan_test::plan_test(plan),
+        }
+    }),
+    ("projections are counted in 64 bits", |plan| {
+        let spans = plan.links.iter().map(|link| (link.y - link.x + 1) as u64);
+        match (
+            plan_test::projections(plan),
+            spans.fold(1, u64::wrapping_mul),
+        ) {
+            (None, few @ 0..=4_096) => Ok(Answer::Yes(few as u32)),
             _ => plan_test::plan_test(plan),
         }
     }),
@@ -1610,6 +1631,351 @@ fn wrong_tests_are_found() {
     }
 }
 
+/// A listing with each of its lines changed.
+fn relisted(plan: &Plan, change: impl Fn(&[&str]) -> String) -> String {
+    let records = 0..plan.records() as u32;
+    let lines = records.map(|number| text::listed(plan, number));
+    let changed = lines.map(|line| change(&line.split(' ').collect::<Vec<_>>()) + "\n");
+    changed.collect()
+}
+
+type Lister = fn(&Plan) -> String;
+
+const LISTERS: [(&str, Lister); 12] = [
+    ("C before the numbers of a link", |plan| {
+        relisted(plan, |words| match words {
+            [kind @ "link", a, x, y, c] => [*kind, a, c, x, y].join(" "),
+            _ => words.join(" "),
+        })
+    }),
+    ("both points before the bound", |plan| {
+        relisted(plan, |words| match words {
+            [kind @ "ordinary", x, d, y] => [*kind, x, y, d].join(" "),
+            _ => words.join(" "),
+        })
+    }),
+    ("w before C", |plan| {
+        relisted(plan, |words| match words {
+            [kind @ "wait", v, c, w] => [*kind, v, w, c].join(" "),
+            _ => words.join(" "),
+        })
+    }),
+    ("codes are signed", |plan| {
+        relisted(plan, |words| match words {
+            ["point", number, code] => {
+                let code = code.parse::<u32>().unwrap_or(0) as i32;
+                format!("point {number} {code}")
+            }
+            _ => words.join(" "),
+        })
+    }),
+    ("no pond is left out", |plan| {
+        relisted(plan, |words| match words {
+            ["point", number, "0"] => format!("point {number}"),
+            _ => words.join(" "),
+        })
+    }),
+    ("numbers in columns", |plan| {
+        relisted(plan, |words| match words {
+            ["point", number, code] => format!("point {number:>2} {code}"),
+            _ => words.join(" "),
+        })
+    }),
+    ("a space at the end", |plan| {
+        relisted(plan, |words| words.join(" ") + " ")
+    }),
+    ("CR LF", |plan| {
+        relisted(plan, |words| words.join(" ") + "\r")
+    }),
+    ("zero bounds have a sign", |plan| {
+        relisted(plan, |words| match words {
+            ["ordinary", x, "0", y] => format!("ordinary {x} -0 {y}"),
+            _ => words.join(" "),
+        })
+    }),
+    ("an empty line between kinds", |plan| {
+        let text = relisted(plan, |words| words.join(" "));
+        text.replacen("link", "\nlink", 1)
+    }),
+    ("256 ordinary records are listed", |plan| {
+        let mut less = plan.clone();
+        less.ordinary.truncate(OLD_ORDINARIES);
+        relisted(&less, |words| words.join(" "))
+    }),
+    ("waits before ordinary records", |plan| {
+        let text = relisted(plan, |words| words.join(" "));
+        let mut lines: Vec<&str> = text.split_inclusive('\n').collect();
+        lines.sort_by_key(|line| line.starts_with("ordinary"));
+        lines.concat()
+    }),
+];
+
+#[test]
+fn wrong_listings_are_found() {
+    for (what, lister) in LISTERS {
+        found("list", what, &|ask| {
+            of_verb("list", ask, |input| {
+                file(read(input).map(|plan| lister(&plan).into_bytes()))
+            })
+        });
+    }
+    // What `list` prints is packed again by the same program.
+    found("list", "pack takes no listing of many lines", &|ask| {
+        let long = ask.input.iter().filter(|byte| **byte == b'\n').count() > 500;
+        match ask.words.first().map(String::as_str) {
+            Some("pack") if long => shown_too_much(),
+            _ => right(ask),
+        }
+    });
+}
+
+fn shown_too_much() -> Said {
+    Said {
+        output: Vec::new(),
+        errors: format!("{}\n", pack::TOO_MUCH).into_bytes(),
+        status: 2,
+    }
+}
+
+/// The lines of an explanation: those before the steps, the steps as numbers, and those behind.
+fn parted(text: &str) -> (Vec<String>, Vec<[i64; 4]>, Vec<String>) {
+    let step = |line: &&str| line.starts_with("step ");
+    let numbers = |line: &str| {
+        let numbers = line.split(' ').skip(1).map(|word| word.parse().unwrap());
+        numbers.collect::<Vec<i64>>().try_into().unwrap()
+    };
+    let lines: Vec<&str> = text.lines().collect();
+    let first = lines
+        .iter()
+        .position(|line| step(&line))
+        .unwrap_or(lines.len());
+    let (before, rest) = lines.split_at(first);
+    let steps = rest.iter().copied().filter(step).map(numbers);
+    let behind = rest.iter().copied().filter(|line| !step(line));
+    let owned = |lines: Vec<&str>| lines.into_iter().map(str::to_string).collect();
+    (
+        owned(before.to_vec()),
+        steps.collect(),
+        owned(behind.collect()),
+    )
+}
+
+fn joined((before, steps, behind): (Vec<String>, Vec<[i64; 4]>, Vec<String>)) -> String {
+    let steps = steps
+        .into_iter()
+        .map(|[r, f, t, l]| format!("step {r} {f} {t} {l}"));
+    let all: Vec<String> = before.into_iter().chain(steps).chain(behind).collect();
+    all.join("\n") + "\n"
+}
+
+/// Ask and text of an explanation, as it should be.
+type Explainer = fn(&Plan, &str) -> String;
+
+/// The lines with each changed.
+fn relined(text: &str, change: impl Fn(&str) -> Option<String>) -> String {
+    let lines = text.lines().filter_map(change);
+    lines.map(|line| line + "\n").collect()
+}
+
+/// With the steps changed, and the sum as it is then.
+fn restepped(text: &str, change: impl Fn(&mut Vec<[i64; 4]>)) -> String {
+    let (before, mut steps, _) = parted(text);
+    change(&mut steps);
+    let sum: i64 = steps.iter().map(|step| step[3]).sum();
+    joined((before, steps, vec![format!("sum {sum}")]))
+}
+
+const EXPLAINERS: [(&str, Explainer); 19] = [
+    ("the first line only", |_, text| {
+        text.split_inclusive('\n').take(1).collect()
+    }),
+    ("no drives", |_, text| {
+        relined(text, |line| {
+            (!line.starts_with("drive")).then(|| line.to_string())
+        })
+    }),
+    ("drives of the shortest durations", |plan, text| {
+        relined(text, |line| match line.split(' ').collect::<Vec<_>>()[..] {
+            ["drive", a, c, _] => {
+                let x = plan.link_to(c.parse().unwrap()).unwrap().x;
+                Some(format!("drive {a} {c} {x}"))
+            }
+            _ => Some(line.to_string()),
+        })
+    }),
+    ("drives from C to A", |_, text| {
+        relined(text, |line| match line.split(' ').collect::<Vec<_>>()[..] {
+            ["drive", a, c, p] => Some(format!("drive {c} {a} {p}")),
+            _ => Some(line.to_string()),
+        })
+    }),
+    ("records are counted from 1", |_, text| {
+        restepped(text, |steps| steps.iter_mut().for_each(|step| step[0] += 1))
+    }),
+    ("records are counted from the first link", |plan, text| {
+        let points = plan.points() as i64;
+        restepped(text, |steps| {
+            steps.iter_mut().for_each(|step| step[0] -= points)
+        })
+    }),
+    ("a wait is a step of -w", |plan, text| {
+        let first = (plan.records() - plan.waits.len()) as i64;
+        restepped(text, |steps| {
+            for step in steps.iter_mut().filter(|step| step[0] >= first) {
+                step[3] = -plan.waits[(step[0] - first) as usize].w;
+            }
+        })
+    }),
+    ("a step back of a link is of its y", |plan, text| {
+        let links = plan.points() as i64..(plan.points() + plan.links.len()) as i64;
+        restepped(text, |steps| {
+            for step in steps.iter_mut().filter(|step| links.contains(&step[0])) {
+                let link = plan.links[(step[0] - links.start) as usize];
+                step[3] = if step[3] < 0 { -link.y } else { step[3] };
+            }
+        })
+    }),
+    ("the last step is not told", |_, text| {
+        restepped(text, |steps| {
+            steps.pop();
+        })
+    }),
+    ("the steps the other way round", |_, text| {
+        restepped(text, |steps| steps.reverse())
+    }),
+    ("each step from its end to its start", |_, text| {
+        restepped(text, |steps| {
+            steps.iter_mut().for_each(|step| step.swap(1, 2))
+        })
+    }),
+    ("the sum is not of the steps", |_, text| {
+        relined(text, |line| match numbered(line, "sum") {
+            Some(sum) => Some(format!("sum {}", sum + 1)),
+            None => Some(line.to_string()),
+        })
+    }),
+    ("no sum", |_, text| {
+        relined(text, |line| {
+            (!line.starts_with("sum")).then(|| line.to_string())
+        })
+    }),
+    ("the sum before the steps", |_, text| {
+        let (mut before, steps, behind) = parted(text);
+        before.extend(behind);
+        joined((before, steps, Vec::new()))
+    }),
+    ("sizes without a sign", |_, text| {
+        relined(text, |line| Some(line.replace('-', "")))
+    }),
+    ("the shortest is that of the allowed", |_, text| {
+        let best = text.lines().find_map(|line| numbered(line, "allowed"));
+        relined(text, |line| match (numbered(line, "shortest"), best) {
+            (Some(_), Some(best)) => Some(format!("shortest {best}")),
+            _ => Some(line.to_string()),
+        })
+    }),
+    ("nothing allowed is 0", |_, text| {
+        relined(text, |line| Some(line.replace("none", "0")))
+    }),
+    ("nothing allowed is left out", |_, text| {
+        relined(text, |line| {
+            (!line.ends_with("none")).then(|| line.to_string())
+        })
+    }),
+    (
+        "a pair's way is shown as far as it goes down",
+        |_, text| match text.starts_with("test pair") {
+            true => restepped(text, |steps| steps.retain(|step| step[3] < 0)),
+            false => text.to_string(),
+        },
+    ),
+];
+
+/// The number of a line that begins with this word.
+fn numbered(line: &str, word: &str) -> Option<i64> {
+    line.strip_prefix(word)?.trim().parse().ok()
+}
+
+/// What is said of an explanation, changed.
+fn explained(ask: &Ask, explainer: Explainer) -> Said {
+    let mut said = right(ask);
+    let text = String::from_utf8_lossy(&said.output).into_owned();
+    let no = text.starts_with("test cycle") || text.starts_with("test pair");
+    if let (true, Ok(plan)) = (no, plan::read(&ask.input)) {
+        said.output = explainer(&plan, &text).into_bytes();
+    }
+    said
+}
+
+#[test]
+fn wrong_explanations_are_found() {
+    for (what, explainer) in EXPLAINERS {
+        found("explain", what, &|ask| explained(ask, explainer));
+    }
+    found("explain", "a pair is told for a cycle", &|ask| {
+        let said = right(ask);
+        match String::from_utf8_lossy(&said.output).strip_prefix("test cycle 0") {
+            Some(rest) => Said {
+                output: format!("test pair 0 0 1{rest}").into_bytes(),
+                ..said
+            },
+            None => said,
+        }
+    });
+}
+
+/// Which cycle and which way is shown is free.
+#[test]
+fn other_walks_are_taken() {
+    let others: [(&str, Explainer); 3] = [
+        ("a cycle from another of its points", |_, text| {
+            match text.starts_with("test cycle") {
+                true => restepped(text, |steps| steps.rotate_left(1)),
+                false => text.to_string(),
+            }
+        }),
+        ("a cycle gone round twice", |_, text| {
+            match text.starts_with("test cycle") {
+                true => restepped(text, |steps| steps.extend(steps.clone())),
+                false => text.to_string(),
+            }
+        }),
+        ("there and back by a link before it goes", |plan, text| {
+            let link = plan.points() as i64;
+            restepped(text, |steps| {
+                if let Some(Link { a, c, .. }) = plan.links.first().copied() {
+                    let p = text.lines().find_map(|line| numbered_drive(line));
+                    let [a, c, p] = [a as i64, c as i64, p.unwrap_or(0)];
+                    if steps[0][1] == a {
+                        steps.splice(0..0, [[link, a, c, p], [link, c, a, -p]]);
+                    }
+                }
+            })
+        }),
+    ];
+    for (what, explainer) in others {
+        let run = |_: usize, ask: &Ask, _: Way| {
+            let ours = match &ask.words[..] {
+                [verb] if verb == "explain" => explained(ask, explainer),
+                _ => right(ask),
+            };
+            Ok((shown(ours), shown(right(ask))))
+        };
+        let limits = limits(&["explain"], 1);
+        let Compared { found, .. } = desk::compare(&run, &["explain"], 1, limits, 2).unwrap();
+        assert!(
+            found.is_none(),
+            "{what}: {:?}",
+            found.map(|found| found.fault)
+        );
+    }
+}
+
+/// The duration of the first drive.
+fn numbered_drive(line: &str) -> Option<i64> {
+    line.strip_prefix("drive ")?.split(' ').nth(2)?.parse().ok()
+}
+
 /// The first link of an accepted plan that document 01 refused: its A ends an earlier one, or its C starts one.
 fn old_10(input: &[u8]) -> Option<usize> {
     let plan = plan::read(input).ok()?;
@@ -1634,7 +2000,9 @@ fn wrong_readers_and_outputs_are_found() {
             input[..mark.map_or(input.len(), |mark| 16 * mark)].to_vec()
         }),
     ];
-    let verbs = ["test", "worst", "day", "close", "lighter"];
+    let verbs = [
+        "test", "worst", "day", "close", "lighter", "list", "explain",
+    ];
     for verb in verbs {
         for (what, changed) in inputs {
             found(verb, what, &|ask| {
@@ -1653,7 +2021,7 @@ fn wrong_readers_and_outputs_are_found() {
                     Some(record) => {
                         let refusal = format!("plan 10 {record}");
                         match verb {
-                            "test" | "worst" => line(refusal, 1),
+                            "test" | "worst" | "explain" => line(refusal, 1),
                             _ => file(Err(refusal)),
                         }
                     }
@@ -1683,7 +2051,7 @@ fn wrong_readers_and_outputs_are_found() {
                     Err((number @ (3 | 6), record)) => {
                         let refusal = format!("plan {number} {record}");
                         match verb {
-                            "test" | "worst" => line(refusal, 1),
+                            "test" | "worst" | "explain" => line(refusal, 1),
                             _ => file(Err(refusal)),
                         }
                     }
@@ -1754,7 +2122,7 @@ fn lines_about_wrong_usage() {
             status,
         })
     };
-    let differ = |ours: &Shown, theirs: &Shown| desk::differ(&["test", "day"], ours, theirs);
+    let differ = |ours: &Shown, theirs: &Shown| desk::differ(&["test", "day"], &[], ours, theirs);
     let ours = line("desk test|day N|list\n", 2);
     let theirs = line("usage: test, day\n", 2);
     assert!(!differ(&ours, &theirs));

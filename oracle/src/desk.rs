@@ -2,6 +2,7 @@
 
 use crate::calendar::{self, Origin};
 use crate::close;
+use crate::explain;
 use crate::import;
 use crate::lighter::{self, Lighter};
 use crate::pack::{self, Refused};
@@ -29,11 +30,13 @@ pub enum Verb {
     Calendar(Origin),
     Lighter,
     Pack,
+    List,
+    Explain,
 }
 
 /// The line about wrong usage.
 const USAGE: &str = "usage: oracle-desk test | worst | day PROJECTION | import | close | \
-                     calendar YEAR MONTH DAY HOUR MINUTE | lighter | pack";
+                     calendar YEAR MONTH DAY HOUR MINUTE | lighter | pack | list | explain";
 
 impl Verb {
     /// None where there is no such verb, or the words are not its words.
@@ -51,6 +54,8 @@ impl Verb {
             }
             ["lighter"] => Some(Verb::Lighter),
             ["pack"] => Some(Verb::Pack),
+            ["list"] => Some(Verb::List),
+            ["explain"] => Some(Verb::Explain),
             _ => None,
         }
     }
@@ -66,6 +71,8 @@ impl Verb {
             Verb::Calendar(origin) => file(calendar(input, &origin)),
             Verb::Lighter => lighter(input),
             Verb::Pack => pack(input),
+            Verb::List => file(list(input)),
+            Verb::Explain => lines(explain(input)),
         }
     }
 }
@@ -181,6 +188,19 @@ fn lighter(file_in: &[u8]) -> Said {
         },
         Err(text) => file(Err(text)),
     }
+}
+
+/// The listing of a plan file, a line for each record.
+fn list(file: &[u8]) -> Result<Vec<u8>, String> {
+    let plan = plan(file)?;
+    let records = 0..plan.records() as u32;
+    let lines = records.flat_map(|number| line(&text::listed(&plan, number)));
+    Ok(lines.collect())
+}
+
+/// What `test` says, and why it says no.
+fn explain(file: &[u8]) -> Result<String, String> {
+    explain::explain(&plan(file)?)
 }
 
 /// The bytes of a listing, or a line about what was expected. That it is too much is wrong usage.

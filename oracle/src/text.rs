@@ -2,7 +2,7 @@
 
 use crate::board::{self, Board, Outcome, Place};
 use crate::event;
-use crate::plan::{self, Ordinary, Plan, Wait, RECORD, ROOM};
+use crate::plan::{self, Link, Ordinary, Plan, Wait, RECORD, ROOM};
 use crate::plan_test::{self, Answer};
 use crate::verdict::{self, Verdict};
 use crate::Refusal;
@@ -165,9 +165,17 @@ fn print_board(plan: &Plan, board: &Board, output: &mut impl Write) -> io::Resul
     Ok(())
 }
 
-/// An ordinary record or a wait, by its number in the file, as a listing has it.
+/// A record, by its number in the file, as a listing has it.
 pub fn listed(plan: &Plan, number: u32) -> String {
-    let place = number as usize - plan.points() - plan.links.len();
+    let mut place = number as usize;
+    if let Some(pond) = plan.ponds.get(place) {
+        return format!("point {place} {pond}");
+    }
+    place -= plan.points();
+    if let Some(Link { a, x, y, c }) = plan.links.get(place) {
+        return format!("link {a} {x} {y} {c}");
+    }
+    place -= plan.links.len();
     match plan.ordinary.get(place) {
         Some(Ordinary { x, d, y }) => format!("ordinary {x} {d} {y}"),
         None => {

@@ -130,7 +130,7 @@ fn tell(both: &Both, seed: u64, found: &Found) -> io::Result<()> {
     let differ = |way: Way, input: &[u8]| {
         let (ours, theirs) = both.run(0, &ask.words, input, way)?;
         let fault = desk::fault(&ask.words, input, &ours);
-        Ok(fault.is_some() || desk::differ(&both.verbs, &ours, &theirs))
+        Ok(fault.is_some() || desk::differ(&both.verbs, &ask.words, &ours, &theirs))
     };
     // Read from a file is the simplest way to see it again.
     let way = if differ(Way::File, &ask.input)? {

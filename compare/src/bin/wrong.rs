@@ -39,6 +39,18 @@ const fn wrong(
     }
 }
 
+/// How plain C counts projections.
+const COUNTED: &str = "u64 projections = 1;
+    for (u32 i = 0; i < p->count; i++) {
+        const record *r = &p->records[i];
+        s.sheet[i] = (row){r->kind, r->a, r->kind == WAIT ? l.from[r->b] : r->b, r->b, r->first, r->second};
+        if (r->kind == LINK) {
+            past++;
+            if (projections <= 4096) projections *= r->second + 1 - r->first;
+        }
+    }
+    if (projections > 4096) return (answer){REFUSED, 13, 0, 0};";
+
 /// The wrong readings that document 01 names come first.
 const ALL: &[Wrong] = &[
     wrong(
@@ -433,6 +445,52 @@ const ALL: &[Wrong] = &[
         "4,097 projections are tried",
         "if (projections > 4096) return",
         "if (projections > 4097) return",
+    ),
+    wrong(
+        "probe",
+        "projections are counted in 32 bits",
+        COUNTED,
+        "u64 projections = 1, all = 1;
+    for (u32 i = 0; i < p->count; i++) {
+        const record *r = &p->records[i];
+        s.sheet[i] = (row){r->kind, r->a, r->kind == WAIT ? l.from[r->b] : r->b, r->b, r->first, r->second};
+        if (r->kind == LINK) {
+            past++;
+            if (all <= 4096) all *= r->second + 1 - r->first;
+            projections = (u32)(projections * (r->second + 1 - r->first));
+        }
+    }
+    if (projections > 4096) return (answer){REFUSED, 13, 0, 0};
+    if (all > 4096) return (answer){YES, projections, 0, 0};",
+    ),
+    wrong(
+        "probe",
+        "projections are counted in 64 bits",
+        COUNTED,
+        "u64 projections = 1, all = 1;
+    for (u32 i = 0; i < p->count; i++) {
+        const record *r = &p->records[i];
+        s.sheet[i] = (row){r->kind, r->a, r->kind == WAIT ? l.from[r->b] : r->b, r->b, r->first, r->second};
+        if (r->kind == LINK) {
+            past++;
+            if (all <= 4096) all *= r->second + 1 - r->first;
+            projections = (projections * (r->second + 1 - r->first));
+        }
+    }
+    if (projections > 4096) return (answer){REFUSED, 13, 0, 0};
+    if (all > 4096) return (answer){YES, projections, 0, 0};",
+    ),
+    wrong(
+        "sheet",
+        "30 before 29",
+        "if (v != 255 && minute < w.lows[v]) return 29;\n    if (w.opens && minute > latest_of(b, &w)) return 30;",
+        "if (w.opens && minute > latest_of(b, &w)) return 30;\n    if (v != 255 && minute < w.lows[v]) return 29;",
+    ),
+    wrong(
+        "sheet",
+        "events are counted in 16 bits",
+        "say(events++,",
+        "say((unsigned short)events++,",
     ),
     wrong(
         "sheet",

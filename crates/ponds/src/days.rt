@@ -26,9 +26,9 @@ pub extern "C" fn ponds_begin(
     file: &[u8],
     links: &mut [u32; LINKS],
     rows: &mut [u64; SHEET],
-    into: &mut [u32; LIST],
-    out: &mut [u32; LIST],
-    ends: &mut [u32; LIST],
+    into: &mut [u16; LIST],
+    out: &mut [u16; LIST],
+    ends: &mut [u16; LIST],
     kept: &mut [u32; KEPT],
 ) -> u64
     ensures { λ r. ⌜ BeginsFrom (now (file .entry)) (now (links .entry)) (now (rows .entry)) (now (into .entry)) (now (out .entry)) (now (ends .entry)) (now (kept .entry)) r (now (links .exit)) (now (rows .exit)) (now (into .exit)) (now (out .exit)) (now (ends .exit)) (now (kept .exit)) ⌝ }
@@ -48,9 +48,9 @@ pub extern "C" fn ponds_begin(
 pub extern "C" fn ponds_take(
     links: &[u32; LINKS],
     rows: &[u64; SHEET],
-    into: &[u32; LIST],
-    out: &[u32; LIST],
-    ends: &[u32; LIST],
+    into: &[u16; LIST],
+    out: &[u16; LIST],
+    ends: &[u16; LIST],
     kept: &mut [u32; KEPT],
     event: &[u8],
 ) -> u64
@@ -65,7 +65,7 @@ pub extern "C" fn ponds_take(
 pub extern "C" fn ponds_reply(
     links: &[u32; LINKS],
     rows: &[u64; SHEET],
-    out: &[u32; LIST],
+    out: &[u16; LIST],
     kept: &[u32; KEPT],
     room: &mut [u32; REPLY],
 ) -> u64

@@ -17,10 +17,10 @@ use Rattle.values.specs.declared.Seen.{Seen}
 use Rattle.values.proofs.Tests.{both}
 use Rattle.values.proofs.Words.{base, same-word}
 use Rattle.values.proofs.Tells.{Tells, tells-all}
-use Rattle.asks.specs.Asks.{testVerb, worstVerb, dayVerb, importVerb, closeVerb, lighterVerb, packVerb, calendarVerb, isCount, alone, counted, dated, numberOf, askedOf}
-use Rattle.asks.specs.Inside.{isVerb, countIn, aloneIn, countedIn, datedIn, numberIn}
+use Rattle.asks.specs.Asks.{testVerb, worstVerb, dayVerb, importVerb, closeVerb, lighterVerb, packVerb, listVerb, calendarVerb, isCount, alone, counted, dated, numberOf, askedOf}
+use Rattle.asks.specs.Inside.{isVerb, countIn, typingIn, aloneIn, countedIn, datedIn, numberIn}
 use Rattle.asks.specs.declared.Asked.{Asked}
-use Rattle.asks.specs.declared.Asked.the-variants.{Test, Worst, Day, Import, Close, Lighter, Pack, Calendar, Nothing}
+use Rattle.asks.specs.declared.Asked.the-variants.{Test, Worst, Day, Import, Close, Lighter, Pack, Listing, Calendar, Nothing}
 use Rattle.asks.specs.declared.Number.{Number}
 
 -- a word that begins with a minus is not all digits
@@ -97,7 +97,7 @@ module _ (f : List ℕ) (a : All IsByte f) where
       omega arith
 
   pub alone-known : aloneIn known ≡ alone f
-  unfolding aloneIn alone
+  unfolding aloneIn typingIn alone
   alone-known =
       rw (
         verb testVerb (omega arith, (omega arith, (omega arith, (omega arith, tt)))) (omega arith),
@@ -106,6 +106,7 @@ module _ (f : List ℕ) (a : All IsByte f) where
         verb closeVerb (omega arith, (omega arith, (omega arith, (omega arith, (omega arith, tt))))) (omega arith),
         verb lighterVerb (omega arith, (omega arith, (omega arith, (omega arith, (omega arith, (omega arith, (omega arith, tt))))))) (omega arith),
         verb packVerb (omega arith, (omega arith, (omega arith, (omega arith, tt)))) (omega arith),
+        verb listVerb (omega arith, (omega arith, (omega arith, (omega arith, tt)))) (omega arith),
       )
 
   pub dated-known : datedIn known ≡ dated f
@@ -159,13 +160,21 @@ module _ (s : Seen) (t : isVerb 4 0x74657374 s ≡ false) (w : isVerb 5 0x776f72
     unfolding aloneIn
     is-lighter e = rw (t, w, i, c, e)
 
-    pub is-pack : isVerb 7 0x6c696768746572 s ≡ false → isVerb 4 0x7061636b s ≡ true → Pack ≡ aloneIn s
+    pub is-rest : isVerb 7 0x6c696768746572 s ≡ false → typingIn s ≡ aloneIn s
     unfolding aloneIn
-    is-pack l e = rw (t, w, i, c, l, e)
+    is-rest l = rw (t, w, i, c, l)
 
-    pub is-none : isVerb 7 0x6c696768746572 s ≡ false → isVerb 4 0x7061636b s ≡ false → Nothing ≡ aloneIn s
-    unfolding aloneIn
-    is-none l e = rw (t, w, i, c, l, e)
+pub is-pack : (s : Seen) → isVerb 4 0x7061636b s ≡ true → Pack ≡ typingIn s
+unfolding typingIn
+is-pack s e = rw e
+
+pub is-list : (s : Seen) → isVerb 4 0x7061636b s ≡ false → isVerb 4 0x6c697374 s ≡ true → Listing ≡ typingIn s
+unfolding typingIn
+is-list s d e = rw (d, e)
+
+pub no-typing : (s : Seen) → isVerb 4 0x7061636b s ≡ false → isVerb 4 0x6c697374 s ≡ false → Nothing ≡ typingIn s
+unfolding typingIn
+no-typing s d e = rw (d, e)
 
 pub is-day : (s n : Seen) → (isVerb 3 0x646179 s && countIn n) ≡ true → Day (n .size % 4294967296) ≡ countedIn s n
 unfolding countedIn

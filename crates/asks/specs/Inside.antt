@@ -5,7 +5,7 @@ use lib.Dec.{eqb, ltb}
 use Rattle.numbers.specs.Choice.{if_then_else_}
 use Rattle.values.specs.declared.Seen.{Seen}
 use Rattle.asks.specs.declared.Asked.{Asked}
-use Rattle.asks.specs.declared.Asked.the-variants.{Test, Worst, Day, Import, Close, Lighter, Pack, Calendar, Nothing}
+use Rattle.asks.specs.declared.Asked.the-variants.{Test, Worst, Day, Import, Close, Lighter, Pack, Listing, Calendar, Nothing}
 use Rattle.asks.specs.declared.Number.{Number}
 
 -- so many letters, as one number to the base 256
@@ -15,6 +15,12 @@ isVerb n w s = eqb (s .count) n && eqb (s .word) w
 abbrev pub countIn : Seen → Bool
 countIn s = not (eqb (s .count) 0) && ((s .digits && not (s .minus)) && ltb (s .size) 4294967296)
 
+unfoldable pub typingIn : Seen → Asked
+typingIn s =
+    if isVerb 4 0x7061636b s then Pack
+    else if isVerb 4 0x6c697374 s then Listing
+    else Nothing
+
 unfoldable pub aloneIn : Seen → Asked
 aloneIn s =
     if isVerb 4 0x74657374 s then Test
@@ -22,8 +28,7 @@ aloneIn s =
     else if isVerb 6 0x696d706f7274 s then Import
     else if isVerb 5 0x636c6f7365 s then Close
     else if isVerb 7 0x6c696768746572 s then Lighter
-    else if isVerb 4 0x7061636b s then Pack
-    else Nothing
+    else typingIn s
 
 unfoldable pub countedIn : Seen → Seen → Asked
 countedIn s n = if isVerb 3 0x646179 s && countIn n then Day (n .size % 4294967296) else Nothing

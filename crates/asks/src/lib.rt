@@ -7,7 +7,7 @@ ghost use lib.Dec.{eqb, ltb};
 ghost use Rattle.numbers.specs.Fits.{All, IsByte};
 ghost use Rattle.values.specs.Inside.{fresh, with, withAll};
 ghost use Rattle.asks.specs.Asks.{askedOf, numberOf};
-ghost use Rattle.asks.specs.Inside.{isVerb, countIn, aloneIn, countedIn, numberIn, datedIn};
+ghost use Rattle.asks.specs.Inside.{isVerb, countIn, typingIn, aloneIn, countedIn, numberIn, datedIn};
 use values::Seen;
 
 // What is asked; nothing that the desk has a verb for.
@@ -19,6 +19,7 @@ pub enum Asked {
     Close,
     Lighter,
     Pack,
+    Listing,
     Calendar,
     Nothing,
 }
@@ -43,6 +44,8 @@ const CLOSE: u64 = 0x636c6f7365;
 const LIGHTER: u64 = 0x6c696768746572;
 
 const PACK: u64 = 0x7061636b;
+
+const LIST: u64 = 0x6c697374;
 
 const CALENDAR: u64 = 0x63616c656e646172;
 
@@ -81,6 +84,19 @@ fn is_count(s: Seen) -> bool
     (s.count != 0) & ((s.digits & !s.minus) & (s.size < 4294967296))
 }
 
+// A verb alone, of those about listings.
+fn typing(s: Seen) -> Asked
+    ensures { λ a. ⌜ a ≡ typingIn s ⌝ }
+{
+    if is_verb(s, 4, PACK) {
+        return Asked::Pack;
+    }
+    if is_verb(s, 4, LIST) {
+        return Asked::Listing;
+    }
+    Asked::Nothing
+}
+
 // A verb alone.
 fn alone(s: Seen) -> Asked
     ensures { λ a. ⌜ a ≡ aloneIn s ⌝ }
@@ -100,10 +116,7 @@ fn alone(s: Seen) -> Asked
     if is_verb(s, 7, LIGHTER) {
         return Asked::Lighter;
     }
-    if is_verb(s, 4, PACK) {
-        return Asked::Pack;
-    }
-    Asked::Nothing
+    typing(s)
 }
 
 // A verb and a number.

@@ -1,3 +1,4 @@
 -- Each contract permits a single reply.
 mod Rooms
+mod Begins
 pub mod SingleReply

@@ -1,10 +1,11 @@
 -- What each open function ensures permits a single reply for each argument, lent rooms included, and none asks anything. A contract
 -- that is an equation does so by one law; that of the plan test does by `one-answer`, that of the lighter plan by `one-lighter`, and those of the
--- engine as `Rooms` says. Assumes nothing.
+-- engine as `Rooms` and `Begins` say. Assumes nothing.
 use mathlib.Core.Path.{_≡_, sym, _∙_}
 use Rattle.vee.proofs.Single.{one-answer}
 use Rattle.lighter.proofs.Theorems.{one-lighter}
 use Rattle.contracts.specs.Contracts.{SingleReplies}
+use Rattle.contracts.proofs.Begins.{one-started, same-rooms}
 use Rattle.contracts.proofs.Rooms.{one-board, one-reply, one-taken, one-room}
 
 -- an equation permits one
@@ -33,6 +34,7 @@ single-replies =
       import = (λ κ a. tt, λ κ a r r′ o o′ x y. same x y);
       pack = (λ κ a. tt, λ κ a r r′ o o′ x y. same (x .0) (y .0));
       pack-leaves = λ κ a r r′ o o′ x y. same (x .1) (y .1);
+      record-line = (λ κ a. tt, λ κ a r r′ o o′ x y. same x y);
       bound-kept = (λ κ a. tt, λ κ a r r′ o o′ x y. same x y);
       both-in = (λ κ a. tt, λ κ a r r′ o o′ x y. same x y);
       fresh = (λ κ a. tt, λ κ a r r′ o o′ x y. same x y);
@@ -43,6 +45,12 @@ single-replies =
       is-sound = (λ κ a. tt, λ κ a r r′ o o′ x y. same x y);
       is-finished = (λ κ a. tt, λ κ a r r′ o o′ x y. same x y);
       reply-of = (λ κ a. tt, λ κ a r r′ o o′ x y. same (x .0) (y .0));
+      begin = (λ κ a. tt, λ κ a r r′ o o′ x y. one-started _ r r′ _ _ _ _ _ _ _ _ _ _ _ _ _ _ _ x y);
+      begin-leaves-rows = λ κ a r r′ o o′ x y. same-rooms _ r r′ _ _ _ _ _ _ _ _ _ _ _ _ _ _ _ x y .rows-same;
+      begin-leaves-into = λ κ a r r′ o o′ x y. same-rooms _ r r′ _ _ _ _ _ _ _ _ _ _ _ _ _ _ _ x y .into-same;
+      begin-leaves-out = λ κ a r r′ o o′ x y. same-rooms _ r r′ _ _ _ _ _ _ _ _ _ _ _ _ _ _ _ x y .out-same;
+      begin-leaves-ends = λ κ a r r′ o o′ x y. same-rooms _ r r′ _ _ _ _ _ _ _ _ _ _ _ _ _ _ _ x y .ends-same;
+      begin-leaves-kept = λ κ a r r′ o o′ x y. same-rooms _ r r′ _ _ _ _ _ _ _ _ _ _ _ _ _ _ _ x y .kept-same;
       board-of = (λ κ a. tt, λ κ a r r′ o o′ x y. one-board _ r r′ x y);
       reply = (λ κ a. tt, λ κ a r r′ o o′ x y. one-reply _ _ _ _ r r′ x y);
       take = (λ κ a. tt, λ κ a r r′ o o′ x y. one-taken _ _ _ _ _ _ _ r r′ _ _ x y);

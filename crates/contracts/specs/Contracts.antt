@@ -29,6 +29,7 @@ use Rattle.board.proofs.Board.take_all.Reads as take-all-code
 use Rattle.board.proofs.is_sound.Reads as is-sound-code
 use Rattle.board.proofs.is_finished.Reads as is-finished-code
 use Rattle.replies.proofs.reply_of.Reads as reply-of-code
+use Rattle.rooms.proofs.begin.Reads as begin-code
 use Rattle.engine.proofs.board_of.Reads as board-of-code
 use Rattle.engine.proofs.reply.Reads as reply-code
 use Rattle.engine.proofs.take.Reads as take-code
@@ -41,6 +42,7 @@ use Rattle.worst.proofs.day_of.Reads as day-of-code
 use Rattle.closure.proofs.close.Reads as close-code
 use Rattle.lines.proofs.blank.Reads as blank-code
 use Rattle.listing.proofs.pack.Reads as pack-code
+use Rattle.listed.proofs.record_line.Reads as record-line-code
 use Rattle.lighter.proofs.lighter_of.Reads as lighter-of-code
 use Rattle.dates.proofs.is_origin.Reads as is-origin-code
 use Rattle.dates.proofs.shown.Reads as shown-code
@@ -102,6 +104,8 @@ pub record SingleReplies : Type 0 where
   -- listing
   pub pack : Single pack-code.Pre pack-code.Post
   pub pack-leaves : Leaves pack-code.Post (λ o. o .1 .0 .now)
+  -- listed
+  pub record-line : Single record-line-code.Pre record-line-code.Post
   -- bounds
   pub bound-kept : Single bound-kept-code.Pre bound-kept-code.Post
   pub both-in : Single both-in-code.Pre both-in-code.Post
@@ -115,7 +119,13 @@ pub record SingleReplies : Type 0 where
   pub is-finished : Single is-finished-code.Pre is-finished-code.Post
   -- replies
   pub reply-of : Single reply-of-code.Pre reply-of-code.Post
-  -- engine
+  -- engine; `begin` is that of `rooms`, passed on
+  pub begin : Single begin-code.Pre begin-code.Post
+  pub begin-leaves-rows : Leaves begin-code.Post (λ o. o .1 .0 .now)
+  pub begin-leaves-into : Leaves begin-code.Post (λ o. o .1 .1 .0 .now)
+  pub begin-leaves-out : Leaves begin-code.Post (λ o. o .1 .1 .1 .0 .now)
+  pub begin-leaves-ends : Leaves begin-code.Post (λ o. o .1 .1 .1 .1 .0 .now)
+  pub begin-leaves-kept : Leaves begin-code.Post (λ o. o .1 .1 .1 .1 .1 .0 .now)
   pub board-of : Single board-of-code.Pre board-of-code.Post
   pub reply : Single reply-code.Pre reply-code.Post
   pub take : Single take-code.Pre take-code.Post

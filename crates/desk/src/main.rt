@@ -6,6 +6,7 @@ mod day_verb;
 mod import_verb;
 mod input;
 mod lighter_verb;
+mod list_verb;
 mod made;
 mod pack_verb;
 mod say;
@@ -16,8 +17,8 @@ mod worst_verb;
 use asks::Asked;
 
 // The verbs and their words.
-const USAGE: [u8; 110] =
-    *b"usage: desk test | worst | day NUMBER | import | pack | close | lighter | calendar YEAR MONTH DAY HOUR MINUTE
+const USAGE: [u8; 117] =
+    *b"usage: desk test | worst | day NUMBER | import | pack | list | close | lighter | calendar YEAR MONTH DAY HOUR MINUTE
 ";
 
 // The first two words behind the program's name: a verb, and what it is asked.
@@ -43,6 +44,7 @@ fn main() {
         Asked::Close => close_verb::run(),
         Asked::Lighter => lighter_verb::run(),
         Asked::Pack => pack_verb::run(),
+        Asked::Listing => list_verb::run(),
         Asked::Calendar => calendar_verb::run(),
         Asked::Nothing => usage(),
     }

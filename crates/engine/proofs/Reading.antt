@@ -1,7 +1,7 @@
 -- A table read from the room, and how an event's number says that its bytes are well formed. Assumes nothing.
-use mathlib.Core.Path.{_≡_, ap, _∙_}
+use mathlib.Core.Path.{_≡_, refl, sym, ap, _∙_}
 use mathlib.Core.List.{List}
-use Prim.Native.Nat.{ℕ, _+_, _^_, _<_, _≤_}
+use Prim.Native.Nat.{ℕ, _+_, _%_, _^_, _<_, _≤_}
 use native.Mathlib.Omega.{arith}
 use native.Mathlib.Decide.{ℕ-discrete}
 use borrow.Author.Tests.{eq-eqb, ne-eqb}
@@ -10,12 +10,18 @@ use lib.Seq.{getD-set-same, getD-set-other}
 use Rattle.plan.specs.Limits.{mostPoints, recordBytes}
 use Rattle.plan.specs.declared.Refusal.{Refusal}
 use Rattle.links.specs.declared.Links.{Links}
-use Rattle.events.specs.Fields.{eventSet}
+use Rattle.events.specs.Fields.{eventPoint, eventSet}
 use Rattle.events.specs.Inside.{eventIn}
 use Rattle.events.proofs.Forming.{formed-length}
-use Rattle.planless.proofs.Numbering.{taken-formed}
+use Rattle.windows.specs.Inside.{pointFrom, besideFrom, refused}
+use Rattle.windows.specs.declared.Windows.{Windows}
+use Rattle.board.specs.declared.Board.{Board}
+use Rattle.planless.specs.ByWindows.{laterBy, numberBy, withRecord}
+use Rattle.planless.proofs.Numbering.{numbered-formed, taken-formed}
+use Rattle.kept_windows.specs.Answers.{holderAt, withHolders, Bare}
+use Rattle.kept_windows.proofs.Naming.{all, all-holders, same-holder}
 use Rattle.kept.specs.Rooms.{eventDoneBy}
-use Rattle.engine.specs.Takes.{TableAt, NumbersWith, TakesWith}
+use Rattle.engine.specs.Takes.{TableAt, BoardIn, NumbersWith, TakesWith}
 
 -- the first q numbers are read
 pub record Reads (kept : List ℕ) (at q : ℕ) (t : List ℕ) : Type 0 where
@@ -35,6 +41,45 @@ reads-turn kept at q t h r = record { near = omega arith; long = simp length-set
 
 pub reads-end : (kept : List ℕ) (at q : ℕ) (t : List ℕ) → mostPoints ≤ q → Reads kept at q t → TableAt kept at t
 reads-end kept at q t h r = record { long = r .long; each = λ p l. r .each p (omega arith) }
+
+-- ---- an event's number, without the records that hold the points
+
+module _ (l : Links) (rows out kept s : List ℕ) (b : Board) (h : BoardIn kept b) (w : Windows) (x : Bare kept (l .points) (l .watched) w) where
+  abbrev number : Windows → ℕ
+  number v = numberBy l (b .clock) (b .done) (b .minutes) v s
+
+  abbrev whole : Windows
+  whole = withHolders w (all rows out kept)
+
+  -- holders change no number
+  same-number : number whole ≡ number w
+  unfolding numberBy laterBy pointFrom
+  same-number = refl
+
+  numbers-with : (r : Refusal) → r ≡ withRecord l (b .done) whole s (number whole) → NumbersWith l rows out kept s r
+  numbers-with r f = record { board = b; holds = h; windows = whole; answers = x .answers rows out (all rows out kept) (all-holders rows out kept); found = f }
+
+  module _ (r : Refusal) (f : r ≡ withRecord l (b .done) w s (number w)) where
+    number-is : r .number ≡ number w
+    number-is = ap (λ (q : Refusal). q .number) f
+
+    -- beside another number than 28 there is no record
+    pub unnamed : (r .number ≡ 28 → ⊥) → NumbersWith l rows out kept s r
+    unnamed n =
+        let e = ne-eqb (number w) 28 (λ u. n (number-is ∙ u)) in
+        numbers-with r (rw (same-number, e) (rw e at f))
+
+    -- an event of number 28 has its sixteen bytes
+    pub formed-28 : r .number ≡ 28 → recordBytes ≤ length s
+    formed-28 z = omega (arith, formed-length (l .points) s (numbered-formed l (b .clock) (b .done) (b .minutes) w s 28 (λ u. omega arith) (λ u. omega arith) (λ u. omega arith) (sym number-is ∙ z)))
+
+    -- and beside it the record is that of the event's point
+    pub named : r .number ≡ 28 → (v : Windows) → v ≡ withHolders w (replicate mostPoints (holderAt rows out kept (eventPoint s % mostPoints))) → (i : ℕ) → i ≡ besideFrom l (b .done) v (eventPoint s) 28
+        → (r′ : Refusal) → r′ ≡ refused 28 i → NumbersWith l rows out kept s r′
+    named z v e i g r′ f′ =
+        let n : number w ≡ 28 = sym number-is ∙ z in
+        let k : i ≡ besideFrom l (b .done) whole (eventPoint s) 28 = rw (e, same-holder rows out kept (all rows out kept) (all-holders rows out kept) (eventPoint s)) at g in
+        numbers-with r′ (rw (same-number, n) (rw k at f′))
 
 -- ---- an event
 

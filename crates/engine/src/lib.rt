@@ -17,6 +17,8 @@ use kept::DONE;
 pub use kept::KEPT;
 use kept::MINUTES;
 use kept::do_event;
+use kept_windows::bare_windows;
+use kept_windows::named_at;
 use kept_windows::windows_of;
 use links::Links;
 pub use neighbours::LIST;
@@ -28,6 +30,9 @@ use replies::Reply;
 pub use rooms::Started;
 pub use rooms::begin;
 use rows::SHEET;
+use windows::NOT_OPEN;
+use windows::record_beside;
+use windows::refusal;
 
 // One number for each point, from a place of the room on.
 fn table(kept: &[u32; KEPT], at: usize) -> [u32; ROOM]
@@ -55,11 +60,11 @@ pub fn board_of(kept: &[u32; KEPT]) -> Board
     }
 }
 
-// The number of an event, and the record beside it.
+// The number of an event, and the record beside it, which is looked for only where the number is 28.
 fn number_of(
     links: Links,
     rows: &[u64; SHEET],
-    out: &[u32; LIST],
+    out: &[u16; LIST],
     kept: &[u32; KEPT],
     event: &[u8],
 ) -> Refusal
@@ -67,17 +72,26 @@ fn number_of(
 {
     let board = board_of(kept);
     let minutes = board.minutes;
-    let w = windows_of(rows, out, kept, links.points, links.watched);
-    number_from(links, board.clock, board.done, minutes, w, event)
+    let w = bare_windows(kept, links.points, links.watched);
+    let found = number_from(links, board.clock, board.done, minutes, w, event);
+    if found.number != NOT_OPEN {
+        return found;
+    }
+    let e = event_in(event);
+    let named = named_at(rows, out, kept, w, e.point);
+    refusal(
+        NOT_OPEN,
+        record_beside(links, board.done, named, e.point, NOT_OPEN),
+    )
 }
 
 // Takes an event: number 0, and its points are done; or a number with the record beside it, and every number of the room is as it was.
 pub fn take(
     links: Links,
     rows: &[u64; SHEET],
-    into: &[u32; LIST],
-    out: &[u32; LIST],
-    ends: &[u32; LIST],
+    into: &[u16; LIST],
+    out: &[u16; LIST],
+    ends: &[u16; LIST],
     kept: &mut [u32; KEPT],
     event: &[u8],
 ) -> Refusal
@@ -92,7 +106,7 @@ pub fn take(
 }
 
 // The reply.
-pub fn reply(links: Links, rows: &[u64; SHEET], out: &[u32; LIST], kept: &[u32; KEPT]) -> Reply
+pub fn reply(links: Links, rows: &[u64; SHEET], out: &[u16; LIST], kept: &[u32; KEPT]) -> Reply
     ensures { λ r. ⌜ RepliesWith links (now (rows .entry)) (now (out .entry)) (now (kept .entry)) r ⌝ }
 {
     let board = board_of(kept);

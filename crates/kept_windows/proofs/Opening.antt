@@ -20,41 +20,35 @@ use Rattle.windows.specs.Inside.{leastAt}
 use Rattle.neighbours.specs.Lists.{entriesOf, firstAt}
 use Rattle.rows.specs.declared.sheet.Row.{Row}
 use Rattle.kept.specs.Rooms.{highsAt, doneAt, holding, untilBy}
-use Rattle.kept_windows.specs.Answers.{openAt, lowAt, shutBy, shutAt, holderAt, Answered}
+use Rattle.kept_windows.specs.Answers.{openAt, lowAt, shutBy, shutAt, holderAt, HoldersOf, Bare}
 
 -- ---- the open points and the Lows
 
-pub record Sofar (rows out kept : List ℕ) (points watched : ℕ) (opens : ℕ) (holders lows : List ℕ) (p : ℕ) : Type 0 where
+pub record Sofar (kept : List ℕ) (points watched : ℕ) (opens : ℕ) (lows : List ℕ) (p : ℕ) : Type 0 where
   pub near : p ≤ mostPoints
   pub fits : opens < 2 ^ 32
   pub long : length lows ≡ mostPoints
-  pub long-holders : length holders ≡ mostPoints
   pub members : (q : ℕ) → q < mostPoints → member opens q ≡ (not (ltb q p) && openAt kept points watched q)
-  pub held : (q : ℕ) → p ≤ q → q < mostPoints → getD holders q 0 ≡ holderAt rows out kept q
   pub earliest : (q : ℕ) → p ≤ q → q < mostPoints → getD lows q 0 ≡ lowAt kept q
 
-pub sofar-start : (rows out kept : List ℕ) (points watched : ℕ) → Sofar rows out kept points watched 0 (replicate mostPoints 0) (replicate mostPoints 0) mostPoints
-sofar-start rows out kept points watched =
+pub sofar-start : (kept : List ℕ) (points watched : ℕ) → Sofar kept points watched 0 (replicate mostPoints 0) mostPoints
+sofar-start kept points watched =
     record {
       near = omega arith;
       fits = omega arith;
       long = length-replicate {A = ℕ} mostPoints 0;
-      long-holders = length-replicate {A = ℕ} mostPoints 0;
-      held = λ q l h. absurd (omega arith);
       members = λ q h. rw (member-empty q, lt-ltb q mostPoints h);
       earliest = λ q l h. absurd (omega arith);
     }
 
-module _ (rows out kept : List ℕ) (points watched opens : ℕ) (holders lows : List ℕ) (p : ℕ) (s : Sofar rows out kept points watched opens holders lows p) (j : ℕ) (e : p ≡ suc j) where
-  pub sofar-turn : (so : Bool) (o v x : ℕ) → so ≡ openAt kept points watched j → o ≡ (if so then withOf opens j else opens) → x ≡ holderAt rows out kept j → v ≡ lowAt kept j
-      → Sofar rows out kept points watched o (set holders j x) (set lows j v) j
-  sofar-turn so o v x is p1 p3 p2 =
+module _ (kept : List ℕ) (points watched opens : ℕ) (lows : List ℕ) (p : ℕ) (s : Sofar kept points watched opens lows p) (j : ℕ) (e : p ≡ suc j) where
+  pub sofar-turn : (so : Bool) (o v : ℕ) → so ≡ openAt kept points watched j → o ≡ (if so then withOf opens j else opens) → v ≡ lowAt kept j
+      → Sofar kept points watched o (set lows j v) j
+  sofar-turn so o v is p1 p2 =
       record {
         near = omega (arith, s .near);
         fits = rw p1 (small so);
         long = simp length-set (s .long);
-        long-holders = simp length-set (s .long-holders);
-        held = λ q l h. held-at q l h (ℕ-discrete q j);
         members = λ q h. rw p1 (one-of q h (ℕ-discrete q j));
         earliest = λ q l h. low-at q l h (ℕ-discrete q j);
       }
@@ -62,10 +56,6 @@ module _ (rows out kept : List ℕ) (points watched opens : ℕ) (holders lows :
       small : (so : Bool) → (if so then withOf opens j else opens) < 2 ^ 32
       small true = with-fits opens j (s .fits)
       small false = s .fits
-
-      held-at : (q : ℕ) → j ≤ q → q < mostPoints → Dec (q ≡ j) → getD (set holders j x) q 0 ≡ holderAt rows out kept q
-      held-at q l h (yes u) = rw (u, getD-set-same holders j x 0 (omega (arith, s .long-holders, s .near)), p3)
-      held-at q l h (no n) = getD-set-other holders j q x 0 n ∙ s .held q (omega arith) h
 
       low-at : (q : ℕ) → j ≤ q → q < mostPoints → Dec (q ≡ j) → getD (set lows j v) q 0 ≡ lowAt kept q
       low-at q l h (yes u) = rw (u, getD-set-same lows j v 0 (omega (arith, s .long, s .near)), p2)
@@ -86,18 +76,41 @@ module _ (rows out kept : List ℕ) (points watched opens : ℕ) (holders lows :
       one-of q h (yes u) = rw (u, le-ltb j j (omega arith)) (at-j so is ∙ is)
       one-of q h (no n) = other so q h n ∙ (s .members q h ∙ rw (e, past q n))
 
-pub sofar-end : (rows out kept : List ℕ) (points watched opens : ℕ) (holders lows : List ℕ) (p high : ℕ) → p ≡ 0 → Sofar rows out kept points watched opens holders lows p
-    → high ≡ leastAt (drop highsAt kept) (membersOf opens) → Answered rows out kept points watched (record { opens = opens; holders = holders; lows = lows; high = high })
-sofar-end rows out kept points watched opens holders lows p high e s h =
+pub sofar-end : (kept : List ℕ) (points watched opens : ℕ) (holders lows : List ℕ) (p high : ℕ) → p ≡ 0 → Sofar kept points watched opens lows p
+    → high ≡ leastAt (drop highsAt kept) (membersOf opens) → Bare kept points watched (record { opens = opens; holders = holders; lows = lows; high = high })
+sofar-end kept points watched opens holders lows p high e s h =
     record {
-      fits = s .fits;
-      long = s .long;
-      long-holders = s .long-holders;
-      opens = λ q l. s .members q l ∙ rw (e, le-ltb q 0 (omega arith));
-      holders = λ q l. s .held q (omega arith) l;
-      lows = λ q l. s .earliest q (omega arith) l;
-      high = h;
+      answers = λ rows out t x.
+          record {
+            fits = s .fits;
+            long = s .long;
+            long-holders = x .long;
+            opens = λ q l. s .members q l ∙ rw (e, le-ltb q 0 (omega arith));
+            holders = x .each;
+            lows = λ q l. s .earliest q (omega arith) l;
+            high = h;
+          };
     }
+
+-- ---- the records that hold the points
+
+pub record Collecting (rows out kept : List ℕ) (p : ℕ) (t : List ℕ) : Type 0 where
+  pub near : p ≤ mostPoints
+  pub long : length t ≡ mostPoints
+  pub each : (q : ℕ) → q < p → getD t q 0 ≡ holderAt rows out kept q
+
+pub collect-start : (rows out kept : List ℕ) → Collecting rows out kept 0 (replicate mostPoints 0)
+collect-start rows out kept = record { near = omega arith; long = length-replicate {A = ℕ} mostPoints 0; each = λ q h. absurd (omega arith) }
+
+pub collect-turn : (rows out kept : List ℕ) (p : ℕ) (t : List ℕ) → p < mostPoints → Collecting rows out kept p t → (x : ℕ) → x ≡ holderAt rows out kept p → Collecting rows out kept (p + 1) (set t p x)
+collect-turn rows out kept p t h s x e = record { near = omega arith; long = simp length-set (s .long); each = λ q l. at q l (ℕ-discrete q p) }
+  where
+    at : (q : ℕ) → q < p + 1 → Dec (q ≡ p) → getD (set t p x) q 0 ≡ holderAt rows out kept q
+    at q l (yes u) = rw (u, getD-set-same t p x 0 (omega (arith, s .long)), e)
+    at q l (no n) = getD-set-other t p q x 0 n ∙ s .each q (omega arith)
+
+pub collect-end : (rows out kept : List ℕ) (p : ℕ) (t : List ℕ) → mostPoints ≤ p → Collecting rows out kept p t → HoldersOf rows out kept t
+collect-end rows out kept p t h s = record { long = s .long; each = λ q l. s .each q (omega arith) }
 
 -- ---- one point
 

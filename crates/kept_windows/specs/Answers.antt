@@ -34,6 +34,16 @@ shutAt rows done i = shutBy (rowAt rows i) done
 abbrev pub holderAt : List ℕ → List ℕ → List ℕ → ℕ → ℕ
 holderAt rows out kept q = if eqb (getD kept q 0) 0 then 0 else firstAt (shutAt rows (getD kept doneAt 0)) (entriesOf out q)
 
+-- t has it for each point
+pub record HoldersOf (rows out kept t : List ℕ) : Type 0 where
+  pub long : length t ≡ mostPoints
+  pub each : (q : ℕ) → q < mostPoints → getD t q 0 ≡ holderAt rows out kept q
+
+-- windows with the holders t
+abbrev pub withHolders : Windows → List ℕ → Windows
+withHolders w t = record { opens = w .opens; holders = t; lows = w .lows; high = w .high }
+
+-- what the kept numbers say of each point, with its holder
 pub record Answered (rows out kept : List ℕ) (points watched : ℕ) (w : Windows) : Type 0 where
   pub fits : w .opens < 2 ^ 32
   pub long : length (w .lows) ≡ mostPoints
@@ -42,3 +52,7 @@ pub record Answered (rows out kept : List ℕ) (points watched : ℕ) (w : Windo
   pub holders : (q : ℕ) → q < mostPoints → getD (w .holders) q 0 ≡ holderAt rows out kept q
   pub lows : (q : ℕ) → q < mostPoints → getD (w .lows) q 0 ≡ lowAt kept q
   pub high : w .high ≡ leastAt (drop highsAt kept) (membersOf (w .opens))
+
+-- the same but for the holders, which may be any: with those of any rows and lists it is the whole
+pub record Bare (kept : List ℕ) (points watched : ℕ) (w : Windows) : Type 0 where
+  pub answers : (rows out t : List ℕ) → HoldersOf rows out kept t → Answered rows out kept points watched (withHolders w t)

@@ -115,7 +115,7 @@ fn with_more(line: Line, more: [Piece; MORE], count: usize) -> Line
 }
 
 // A whole line: a piece, and `count` more.
-pub(crate) fn line_of(first: Piece, more: [Piece; MORE], count: usize) -> Line
+pub fn line_of(first: Piece, more: [Piece; MORE], count: usize) -> Line
     requires { ⌜ count ≤ 4 ⌝ }
     ensures { λ l. ⌜ l ≡ lineOf (textOf first (take count more)) ⌝ }
 {

@@ -26,11 +26,11 @@ pub const LIST: usize = BUCKETS + MOST_RECORDS;
 const WIDTH: usize = SHEET / MOST_RECORDS;
 
 // The end of a list.
-const NONE: u32 = MOST_RECORDS as u32;
+const NONE: u16 = MOST_RECORDS as u16;
 
 const MANY: u64 = BUCKETS as u64;
 
-fn wide(x: u32) -> usize
+fn wide(x: u16) -> usize
     ensures { λ r. ⌜ r ≡ x ⌝ }
 {
     x as usize
@@ -58,7 +58,7 @@ fn key_at(rows: &[u64; SHEET], least: u64, field: usize, i: usize) -> usize
     key(least, rows[at], rows[at + field])
 }
 
-fn clear(list: &mut [u32; LIST])
+fn clear(list: &mut [u16; LIST])
     ensures { λ _. ⌜ now (list .exit) ≡ replicate listRoom mostRecords ⌝ }
 {
     *list = [NONE; LIST];
@@ -66,7 +66,7 @@ fn clear(list: &mut [u32; LIST])
 
 // The lists of the first `count` rows of the kinds from `least` on, by the point in a field: each record is put in front of its
 // list, from the last to the first.
-pub fn build(rows: &[u64; SHEET], least: u64, field: usize, count: usize, list: &mut [u32; LIST])
+pub fn build(rows: &[u64; SHEET], least: u64, field: usize, count: usize, list: &mut [u16; LIST])
     requires { ⌜ (field < width) × (count ≤ mostRecords) ⌝ }
     ensures { λ _. ⌜ Indexed (keyAt (now (rows .entry)) least field) count (now (list .exit)) ⌝ }
 {
@@ -76,19 +76,19 @@ pub fn build(rows: &[u64; SHEET], least: u64, field: usize, count: usize, list: 
         i -= 1;
         let k = key_at(rows, least, field, i);
         list[BUCKETS + i] = list[k];
-        list[k] = i as u32;
+        list[k] = i as u16;
     }
 }
 
 // Where the list of the point z starts.
-pub fn start(list: &[u32; LIST], z: usize) -> usize
+pub fn start(list: &[u16; LIST], z: usize) -> usize
     ensures { λ r. ⌜ r ≡ startOf (now (list .entry)) z ⌝ }
 {
     wide(list[z % BUCKETS])
 }
 
 // Where a walk goes on from the record i, with so many entries left that it may still read.
-pub fn onward(list: &[u32; LIST], i: usize, left: usize) -> usize
+pub fn onward(list: &[u16; LIST], i: usize, left: usize) -> usize
     requires { ⌜ i < mostRecords ⌝ }
     ensures { λ r. ⌜ r ≡ onwardOf (now (list .entry)) i left ⌝ }
 {

@@ -52,7 +52,7 @@ bits-fit (pos n) h = omega arith
 bits-fit (negsuc n) h = omega arith
 
 -- each byte of s, also past its end, where 0 is read
-byte : (s : List ℕ) → All IsByte s → (i : ℕ) → IsByte (getD s i 0)
+pub byte : (s : List ℕ) → All IsByte s → (i : ℕ) → IsByte (getD s i 0)
 byte [] h i = omega arith
 byte (x ∷ s) h zero = h .0
 byte (x ∷ s) h (suc i) = byte s (h .1) i

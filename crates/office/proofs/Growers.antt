@@ -7,7 +7,7 @@ use mathlib.Core.List.{List, [], _∷_, _++_, map, append-nil}
 use Prim.Native.Nat.{ℕ, zero, suc, _+_, _-_, _≤_, _<_}
 use native.Mathlib.Omega.{arith}
 use lib.Dec.{eqb}
-use lib.ListN.{length, getD, replicate, length-append, length-map, length-replicate}
+use lib.ListN.{length, getD, length-append, length-map}
 use lib.Seq.{append-snoc}
 use borrow.Author.Tests.{eqb-true}
 use Rattle.numbers.specs.Choice.{if_then_else_}
@@ -17,11 +17,11 @@ use Rattle.values.proofs.Fit.{kind-fits, point-fits, number-fits, code-fits}
 use Rattle.records.specs.Records.{blank}
 use Rattle.records.specs.Held.{Held}
 use Rattle.records.specs.declared.Record.{Record}
-use Rattle.records.proofs.Entries.{all-append}
 use Rattle.plan.specs.Limits.{mostRecords}
 use Rattle.plan.specs.APlan.{planOf, recordsOf}
 use Rattle.plan.specs.Held.{HeldPlan}
 use Rattle.plan.specs.ReplyNumbers.{refusal, checkOf}
+use Rattle.plan.proofs.Holding.{plan-held}
 use Rattle.plan.proofs.RoundTrip.{records-of-plan, checked-count, names-no-place, reads-as-checked, written-reads-whole}
 use Rattle.office.specs.Sheets.{Columns, broken, columns, fieldsOf, linesOf, Row, bad, good, column, isKind, isPoint, isNumber, isCode, readable, recordOf, rowOf, lineRow, rowsOf, refused, taken, readAs, importRows, importOf}
 use Rattle.office.specs.Promised.{lineOf, Says, Imports, StopsBy}
@@ -130,21 +130,6 @@ goods-held : (ls : List (List ℕ)) (rs : List Record) → rowsOf ls ≡ map goo
 goods-held ls [] e = tt
 goods-held [] (r ∷ rs) e = absurd (let z : _≡_ {A = ℕ} 0 1 = cc in omega arith)
 goods-held (l ∷ ls) (r ∷ rs) e = (record-held l r (line-good l r (cc)), goods-held ls rs (cc))
-
-blank-held : Held blank
-blank-held = record { kind = omega arith; a = omega arith; b = omega arith; first = omega arith; second = omega arith; code = omega arith }
-
-blanks-held : (n : ℕ) → All Held (replicate n blank)
-blanks-held zero = tt
-blanks-held (suc n) = (blank-held, blanks-held n)
-
-plan-held : (rs : List Record) → All Held rs → length rs ≤ mostRecords → HeldPlan (planOf rs)
-plan-held rs a h =
-    record {
-      room = length-append rs (replicate (mostRecords - length rs) blank) ∙ rw (length-replicate (mostRecords - length rs) blank) (omega arith);
-      each = all-append Held rs (replicate (mostRecords - length rs) blank) a (blanks-held (mostRecords - length rs));
-      count = omega arith;
-    }
 
 -- what is read without a refusal
 read-as : (rs : List Record) → readAs rs .number ≡ 0 → (checkOf (planOf rs) .number ≡ 0) × (readAs rs ≡ taken rs)

@@ -13,8 +13,9 @@ use lib.Seq.{append-snoc}
 use borrow.Author.Tests.{ne-eqb, lt-ltb, le-leb, leb-true, eqb-true, eqb-false}
 use Rattle.numbers.specs.Choice.{if_then_else_}
 use Rattle.numbers.specs.Fits.{All}
-use Rattle.values.specs.Values.{isDigit, isMinus, allDigits, valueFrom, isNegative, unsigned, isNumber, numberOf, isPoint, pointOf, isCode, codeOf, same, isKind, kindOf}
+use Rattle.values.specs.Values.{isEmpty, isDigit, allDigits, valueFrom, isNumber, numberOf, isPoint, pointOf, isCode, codeOf, same, isKind, kindOf}
 use Rattle.values.proofs.Tells.{digits-snoc, value-snoc}
+use Rattle.values.proofs.Digits.{digit-is, digits-unsigned, number-up, number-down}
 use Rattle.fields.specs.Quoting.{columns, quote, comma, cr, lf, actOf, withField, fieldsFrom, fieldsOf}
 use Rattle.fields.specs.declared.Place.the-variants.{Begin, Bare}
 use Rattle.fields.specs.declared.Act.the-variants.{Keep}
@@ -114,9 +115,6 @@ joined-unbroken (f ∷ g ∷ fs) a = over f (a .0) (joined-unbroken (g ∷ fs) (
 
 -- ---- numbers
 
-digit-is : (n : ℕ) → isDigit (48 + n % 10) ≡ true
-digit-is n = rw (le-leb 48 (48 + n % 10) (omega arith), le-leb (48 + n % 10) 57 (omega arith))
-
 places-digits : (w n : ℕ) → allDigits (placesOf w n) ≡ true
 unfolding placesOf allDigits
 places-digits zero n = refl
@@ -134,15 +132,6 @@ unfolding placesOf
 places-length zero n = refl
 places-length (suc w) n = length-append (placesOf w (n / 10)) ((48 + n % 10) ∷ []) ∙ rw (places-length w (n / 10)) (omega arith)
 
--- digits have no minus in front
-digits-unsigned : (f : List ℕ) → allDigits f ≡ true → (unsigned f ≡ f) × (isNegative f ≡ false)
-unfolding unsigned isNegative allDigits
-digits-unsigned [] e = (refl, refl)
-digits-unsigned (c ∷ f) e =
-    let d = both (leb 48 c) (leb c 57) (both (isDigit c) (allDigits f) e .0) in
-    let m : isMinus c ≡ false = ne-eqb c 45 (λ q. let l = leb-true 48 c (d .0) in omega arith) in
-    (rw m, m)
-
 digits-plain : (f : List ℕ) → allDigits f ≡ true → All Plain f
 unfolding allDigits
 digits-plain [] e = tt
@@ -158,16 +147,13 @@ module _ (n : ℕ) (h : n < 256) where
       let v = places-value 3 n (omega arith) in
       (rw (u .1, u .0, v, places-digits 3 n, places-length 3 n, le-leb 0 n (omega arith), lt-ltb n 256 h), rw (u .1, u .0, v))
 
+places-some : (n : ℕ) → isEmpty (placesOf 10 n) ≡ false
+places-some n = rw (places-length 10 n)
+
 number-said : (z : ℤ) → mag z < 2 ^ 31 → (isNumber (numberText z) ≡ true) × (numberOf (numberText z) ≡ z)
-unfolding isNegative unsigned
-number-said (pos n) h =
-    let u = digits-unsigned (placesOf 10 n) (places-digits 10 n) in
-    let v = places-value 10 n (omega arith) in
-    (rw (u .1, u .0, v, places-digits 10 n, places-length 10 n, lt-ltb n (2 ^ 31) h), rw (u .1, u .0, v))
+number-said (pos n) h = number-up (placesOf 10 n) (places-digits 10 n) (places-some n) n (places-value 10 n (omega arith)) h
 number-said (negsuc n) h =
-    let v = places-value 10 (n + 1) (omega arith) in
-    let s : n + 1 ≡ suc n = omega arith in
-    (rw (v, places-digits 10 (n + 1), places-length 10 (n + 1), s, lt-ltb n (2 ^ 31) h), rw (v, s))
+    number-down (placesOf 10 (n + 1)) (places-digits 10 (n + 1)) (places-some (n + 1)) n (places-value 10 (n + 1) (omega arith) ∙ omega arith) h
 
 number-plain : (z : ℤ) → All Plain (numberText z)
 number-plain (pos n) = digits-plain (placesOf 10 n) (places-digits 10 n)

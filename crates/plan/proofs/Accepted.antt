@@ -266,7 +266,8 @@ kept-all rs (x ∷ xs) w e =
     let n : numberOf (after rs) x 0 ≡ 0 = Entries.passed (λ (x : Refusal). x .number) _ _ _ refl e in
     rw (append-snoc rs x xs) at (kept-all (rs ++ (x ∷ [])) xs (kept-more rs x n w) (rw n at e))
 
-none-refused : (p : Plan) → checkOf p .number ≡ 0 → firstBad [] (map plain (recordsOf p)) .number ≡ 0
+-- Of a plan that passes the check no record is refused after those before it.
+pub none-refused : (p : Plan) → checkOf p .number ≡ 0 → firstBad [] (map plain (recordsOf p)) .number ≡ 0
 unfolding checkWith
 none-refused p e =
     let a = Entries.past (λ (x : Refusal). x .number) (eqb (p .count) 0) (refusal 1 0) _ (omega arith) e in

@@ -6,6 +6,7 @@ pub mod Entries
 pub mod Limited
 pub mod RoundTrip
 pub mod OldFiles
+pub mod Holding
 pub mod Accepted
 mod Pairing
 mod Lookup

@@ -2,7 +2,7 @@
 -- `records`), and the few words more that the theorems on files and plans are said with. Definitions only. Assumes nothing.
 use mathlib.Core.Path.{_≡_}
 use mathlib.Core.List.{List}
-use Prim.Native.Nat.{ℕ, _<_, _^_}
+use Prim.Native.Nat.{ℕ}
 use lib.ListN.{length}
 use Rattle.plan.specs.Limits.{mostRecords}
 use Rattle.plan.specs.APlan.{recordsOf}
@@ -17,7 +17,6 @@ pub use Rattle.records.specs.Held.{Held, plain}
 pub record HeldPlan (p : Plan) : Type 0 where
   pub room : length (p .records) ≡ mostRecords
   pub each : All Held (p .records)
-  pub count : p .count < 2 ^ 32
 
 -- a reading's number and place
 abbrev pub refusalIn : Reading → Refusal

@@ -1,6 +1,6 @@
 -- 21 to 30 from links and windows, by how far the tests come; r is what the code answers, and x what it has for a test.
 -- Assumes nothing.
-use mathlib.Core.Path.{_≡_, refl}
+use mathlib.Core.Path.{_≡_, refl, sym}
 use mathlib.Core.Bool.{Bool, true, false, not}
 use mathlib.Core.List.{List}
 use Prim.Native.Nat.{ℕ}
@@ -43,13 +43,18 @@ module _ (l : Links) (clock done : ℕ) (minutes : List ℕ) (w : Windows) (s : 
     unfolding numberBy
     later e a = rw (ne-eqb done (belowOf (l .points)) h, ← test, e) a
 
--- an event of number 0 is well formed
-pub taken-formed : (l : Links) (clock done : ℕ) (minutes : List ℕ) (w : Windows) (s : List ℕ) → numberBy l clock done minutes w s ≡ 0 → wellFormed (l .points) s ≡ true
+-- an event of another number than 21 to 23 is well formed
+pub numbered-formed : (l : Links) (clock done : ℕ) (minutes : List ℕ) (w : Windows) (s : List ℕ) (k : ℕ) → (k ≡ 21 → ⊥) → (k ≡ 22 → ⊥) → (k ≡ 23 → ⊥)
+    → numberBy l clock done minutes w s ≡ k → wellFormed (l .points) s ≡ true
 unfolding numberBy laterBy
-taken-formed l clock done minutes w s = go (eqb done (belowOf (l .points))) (stuckBy l done w) (wellFormed (l .points) s) _
+numbered-formed l clock done minutes w s k n1 n2 n3 = go (eqb done (belowOf (l .points))) (stuckBy l done w) (wellFormed (l .points) s) _
   where
-    go : (x y z : Bool) (n : ℕ) → (if x then 21 else if y then 22 else if not z then 23 else n) ≡ 0 → z ≡ true
-    go true y z n e = absurd (omega arith)
-    go false true z n e = absurd (omega arith)
+    go : (x y z : Bool) (n : ℕ) → (if x then 21 else if y then 22 else if not z then 23 else n) ≡ k → z ≡ true
+    go true y z n e = absurd (n1 (sym e))
+    go false true z n e = absurd (n2 (sym e))
     go false false true n e = refl
-    go false false false n e = absurd (omega arith)
+    go false false false n e = absurd (n3 (sym e))
+
+-- one of number 0 is
+pub taken-formed : (l : Links) (clock done : ℕ) (minutes : List ℕ) (w : Windows) (s : List ℕ) → numberBy l clock done minutes w s ≡ 0 → wellFormed (l .points) s ≡ true
+taken-formed l clock done minutes w s = numbered-formed l clock done minutes w s 0 (λ u. omega arith) (λ u. omega arith) (λ u. omega arith)

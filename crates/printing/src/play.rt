@@ -51,9 +51,9 @@ fn event(
     links: Links,
     ponds: [u32; ROOM],
     rows: &[u64; SHEET],
-    into: &[u32; LIST],
-    from: &[u32; LIST],
-    ends: &[u32; LIST],
+    into: &[u16; LIST],
+    from: &[u16; LIST],
+    ends: &[u16; LIST],
     kept: &mut [u32; KEPT],
     bytes: &[u8],
     k: u64,
@@ -81,9 +81,9 @@ fn events(
     links: Links,
     ponds: [u32; ROOM],
     rows: &[u64; SHEET],
-    into: &[u32; LIST],
-    from: &[u32; LIST],
-    ends: &[u32; LIST],
+    into: &[u16; LIST],
+    from: &[u16; LIST],
+    ends: &[u16; LIST],
     kept: &mut [u32; KEPT],
     before: Went,
     chunk: &[u8],
@@ -138,9 +138,9 @@ fn turn(
     links: Links,
     ponds: [u32; ROOM],
     rows: &[u64; SHEET],
-    into: &[u32; LIST],
-    from: &[u32; LIST],
-    ends: &[u32; LIST],
+    into: &[u16; LIST],
+    from: &[u16; LIST],
+    ends: &[u16; LIST],
     kept: &mut [u32; KEPT],
     before: Went,
     chunk: &mut [u8],
@@ -181,9 +181,9 @@ fn play_on(
     links: Links,
     ponds: [u32; ROOM],
     rows: &[u64; SHEET],
-    into: &[u32; LIST],
-    from: &[u32; LIST],
-    ends: &[u32; LIST],
+    into: &[u16; LIST],
+    from: &[u16; LIST],
+    ends: &[u16; LIST],
     kept: &mut [u32; KEPT],
     first: Went,
     chunk: &mut [u8],
@@ -221,7 +221,7 @@ fn opened(
     links: Links,
     ponds: [u32; ROOM],
     rows: &[u64; SHEET],
-    from: &[u32; LIST],
+    from: &[u16; LIST],
     kept: &[u32; KEPT],
     first: Went,
     lines: &mut [u8],
@@ -247,9 +247,9 @@ pub(crate) fn play(
     requires { ⌜ first .at ≤ length (now chunk) ⌝ }
 {
     let mut rows = [0u64; SHEET];
-    let mut into = [0u32; LIST];
-    let mut from = [0u32; LIST];
-    let mut ends = [0u32; LIST];
+    let mut into = [0u16; LIST];
+    let mut from = [0u16; LIST];
+    let mut ends = [0u16; LIST];
     let mut kept = [0u32; KEPT];
     let started = engine::begin(plan, &mut rows, &mut into, &mut from, &mut ends, &mut kept);
     let links = started.links;

@@ -42,7 +42,7 @@ pub(crate) fn shown(
     links: Links,
     ponds: [u32; ROOM],
     rows: &[u64; SHEET],
-    from: &[u32; LIST],
+    from: &[u16; LIST],
     kept: &[u32; KEPT],
     lines: &mut [u8],
     out: Out,

@@ -82,7 +82,7 @@ pub some-cycle : {b : Part} {s w t : List ℕ} {m n : ℕ} (r : Bool) → not r 
 some-cycle true e f = absurd (let z : _≡_ {A = ℕ} 0 1 = cc in omega arith)
 some-cycle false e f = part-cycle (f .verdict)
 
-part-distances : {b : Part} {s w t : List ℕ} {m n : ℕ} (r : Bool) → not r ≡ false → Filled b s w m n t r → Distances (PartOf b (SheetEdge s w m)) n (at t) × Consistent (PartOf b (SheetEdge s w m)) × Shallow n (at t)
+pub part-distances : {b : Part} {s w t : List ℕ} {m n : ℕ} (r : Bool) → not r ≡ false → Filled b s w m n t r → Distances (PartOf b (SheetEdge s w m)) n (at t) × Consistent (PartOf b (SheetEdge s w m)) × Shallow n (at t)
 part-distances true e f = f .verdict
 part-distances false e f = absurd (let z : _≡_ {A = ℕ} 0 1 = cc in omega arith)
 

@@ -7,3 +7,4 @@ pub mod Lowering
 pub mod Rounding
 pub mod Searches
 pub mod Judges
+pub mod OneRound

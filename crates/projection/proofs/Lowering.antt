@@ -11,7 +11,7 @@ use lib.Seq.{getD-set-same, getD-set-other, drop-cons}
 use Rattle.tables.specs.Tables.{side, room}
 use Rattle.tables.specs.Entries.{nowhere, far, small, wide, raw, at, Lesser}
 use Rattle.tables.proofs.Widths.{wide-in, wide-out, finite, wide-there, wide-mono}
-use Rattle.projection.specs.Ways.{Shorter, sum, Capped, Down, Dropped, DroppedRow, LowerReady, LowerDone}
+use Rattle.projection.specs.Ways.{Shorter, sum, Capped, Down, Dropped, DroppedRow, RowReady, RowLowered, LowerReady, LowerDone}
 
 -- ---- the sum
 
@@ -86,39 +86,26 @@ drop-ended n z d t j l h g = record { long = g .long; each = λ y a. g .each y (
 -- ---- one row
 
 -- row x before its entry j: t₀ is the table before the row
-pub record Lowering (n x z d : ℕ) (l t₀ : List ℕ) (j : ℕ) (t : List ℕ) : Type 0 where
+pub record Lowering (x : ℕ) (l t₀ : List ℕ) (j : ℕ) (t : List ℕ) : Type 0 where
   pub capped : Capped t
   pub within : j ≤ side
-  pub row : DroppedRow n z d t₀ l
   pub done : (y : ℕ) → y < j → Lesser (getD l y 0) (raw t₀ x y) (raw t x y)
   pub rest : (v y : ℕ) → y < side → (v ≢ x) ⊎ (j ≤ y) → raw t v y ≡ raw t₀ v y
   pub down : Down t₀ t
 
-pub start : (n x z d : ℕ) (l t : List ℕ) → Capped t → DroppedRow n z d t l → Lowering n x z d l t 0 t
-start n x z d l t c r = record { capped = c; within = omega arith; row = r; done = λ y h. absurd (omega arith); rest = λ v y h e. refl; down = λ q h. omega arith }
+pub start : (x : ℕ) (l t : List ℕ) → Capped t → Lowering x l t 0 t
+start x l t c = record { capped = c; within = omega arith; done = λ y h. absurd (omega arith); rest = λ v y h e. refl; down = λ q h. omega arith }
 
-module _ (n x z d : ℕ) (l t₀ : List ℕ) (j : ℕ) (t : List ℕ) (ready : LowerReady n x z d t₀) (g : Lowering n x z d l t₀ j t) (h : j < side) where
+module _ (x : ℕ) (l t₀ : List ℕ) (j : ℕ) (t : List ℕ) (ready : RowReady x l t₀) (g : Lowering x l t₀ j t) (h : j < side) where
   inside : x * side + j < room
-  inside = omega (arith, ready .row, ready .few)
+  inside = omega (arith, ready .row)
 
   -- both numbers are small
   pub are-small : (getD l j 0 < small) × (raw t x j < small)
-  are-small = (
-    elim (decLt j n) [
-      | yes hj ↦
-          let e = g .row .each j hj in
-          let m = ready .capped .most (z * side + j) (omega (arith, ready .other, ready .few)) in
-          elim (decLt (raw t₀ z j) nowhere) [
-            | yes k ↦ omega (arith, e .same k)
-            | no k ↦ omega (arith, e .gone (omega arith))
-          ]
-      | no hj ↦ omega (arith, g .row .past j (omega arith) h)
-    ],
-    omega (arith, g .capped .most (x * side + j) inside),
-  )
+  are-small = (ready .small j h, omega (arith, g .capped .most (x * side + j) inside))
 
-  pub turn : (r : ℕ) → Lesser (getD l j 0) (raw t x j) r → Lowering n x z d l t₀ (j + 1) (set t (x * side + j) r)
-  turn r s = record { capped = record { long = length-set t (x * side + j) r ∙ g .capped .long; most = most }; within = omega arith; row = g .row; done = done; rest = rest; down = down }
+  pub turn : (r : ℕ) → Lesser (getD l j 0) (raw t x j) r → Lowering x l t₀ (j + 1) (set t (x * side + j) r)
+  turn r s = record { capped = record { long = length-set t (x * side + j) r ∙ g .capped .long; most = most }; within = omega arith; done = done; rest = rest; down = down }
     where
       long : x * side + j < length t
       long = omega (arith, g .capped .long, inside)
@@ -156,7 +143,7 @@ module _ (n x z d : ℕ) (l t₀ : List ℕ) (j : ℕ) (t : List ℕ) (ready : L
       rest v y a e = getD-set-other t (x * side + j) (v * side + y) r 0 (apart v y a e) ∙ g .rest v y a (less v y e)
 
 -- the lesser, as what it stands for
-shorter : (a c d l r : ℕ) → a ≤ nowhere → Dropped c d l → Lesser l a r → Shorter (wide a) (wide c) d (wide r)
+pub shorter : (a c d l r : ℕ) → a ≤ nowhere → Dropped c d l → Lesser l a r → Shorter (wide a) (wide c) d (wide r)
 shorter a c d l r m e s = elim (decLt c nowhere) [
   | yes h ↦
       let k = e .same h in
@@ -169,12 +156,30 @@ shorter a c d l r m e s = elim (decLt c nowhere) [
       record { low = wide-mono r a (s .second); via = λ f. absurd (omega (arith, wide-out c (omega arith))); from = inl (ap wide i) }
 ]
 
-pub ended : (n x z d j : ℕ) (l t₀ t : List ℕ) → LowerReady n x z d t₀ → side ≤ j → Lowering n x z d l t₀ j t → LowerDone n x z d t₀ t
-ended n x z d j l t₀ t ready h g = record {
+pub ended : (x j : ℕ) (l t₀ t : List ℕ) → side ≤ j → Lowering x l t₀ j t → RowLowered x l t₀ t
+ended x j l t₀ t h g = record { capped = g .capped; done = λ y a. g .done y (omega arith); rest = λ v y e a. g .rest v y a (inl e); down = g .down }
+
+-- ---- one row by another, less a number
+
+-- its numbers are small
+pub may-lower-row : (n x z d : ℕ) (l t : List ℕ) → LowerReady n x z d t → DroppedRow n z d t l → (j : ℕ) → j < side → getD l j 0 < small
+may-lower-row n x z d l t ready row j h = elim (decLt j n) [
+  | yes hj ↦
+      let e = row .each j hj in
+      let m = ready .capped .most (z * side + j) (omega (arith, ready .other, ready .few)) in
+      elim (decLt (raw t z j) nowhere) [
+        | yes k ↦ omega (arith, e .same k)
+        | no k ↦ omega (arith, e .gone (omega arith))
+      ]
+  | no hj ↦ omega (arith, row .past j (omega arith) h)
+]
+
+pub lowered-row : (n x z d : ℕ) (l t₀ t : List ℕ) → LowerReady n x z d t₀ → DroppedRow n z d t₀ l → RowLowered x l t₀ t → LowerDone n x z d t₀ t
+lowered-row n x z d l t₀ t ready row g = record {
   capped = g .capped;
   eased = record {
-    cell = λ y a. shorter (raw t₀ x y) (raw t₀ z y) d (getD l y 0) (raw t x y) (ready .capped .most (x * side + y) (omega (arith, ready .row, ready .few))) (g .row .each y a) (g .done y (omega (arith, ready .few)));
-    rest = λ v y e a. ap wide (g .rest v y (omega (arith, ready .few)) (inl e));
+    cell = λ y a. shorter (raw t₀ x y) (raw t₀ z y) d (getD l y 0) (raw t x y) (ready .capped .most (x * side + y) (omega (arith, ready .row, ready .few))) (row .each y a) (g .done y (omega (arith, ready .few)));
+    rest = λ v y e a. ap wide (g .rest v y e (omega (arith, ready .few)));
   };
   down = g .down;
 }

@@ -29,66 +29,78 @@ light s w m n q r h (there k _ _ a b) = omega (arith, r .durations (overAt s q))
 light s w m n q r h (back k _ _ a b) = omega (arith, r .durations (overAt s q))
 light s w m n q r h (wait k _ _ a b) = omega (arith, r .durations (overAt s q))
 
-module _ (s w : List ℕ) (m n q : ℕ) (t : List ℕ) (r : RoundReady s w m n t) (below : q < m) where
-  abbrev E : ℕ → ℕ → ℕ → ℕ → Type 0
+-- ---- the negative edge of row q
+
+module _ (s w : List ℕ) (m n q : ℕ) (ready : SheetReady s w m n) (below : q < m) where
+  abbrev pub E : ℕ → ℕ → ℕ → ℕ → Type 0
   E = SheetEdge s w m
 
-  in-plan : Inside E n
-  in-plan = inside (r .ready) (omega arith)
+  pub in-plan : Inside E n
+  in-plan = inside ready (omega arith)
 
   pub over-in : {x : Row} {o : ℕ} → x ≡ rowAt s q → o ≡ x .over → o < side
-  over-in e ho = rw (ho, e) (r .ready .over q below)
+  over-in e ho = rw (ho, e) (ready .over q below)
 
   module _ {x : Row} {o : ℕ} {f : Fall} (e : x ≡ rowAt s q) (ho : o ≡ x .over) (ef : f ≡ fallOf x (by w o)) where
-    is-fall : f ≡ fallAt s w q
+    pub is-fall : f ≡ fallAt s w q
     is-fall = rw (ef, ho, e) refl
 
-    the-edge : 0 < f .drop → Falls s w q f
+    pub the-edge : 0 < f .drop → Falls s w q f
     the-edge pos = rw is-fall (falls s w q (rw is-fall at pos))
 
     pub small : 0 < f .drop → f .drop ≤ farthest
-    small pos = omega (arith, the-edge pos .below, light s w m n q (r .ready) below (the-edge pos .edge))
+    small pos = omega (arith, the-edge pos .below, light s w m n q ready below (the-edge pos .edge))
 
+    pub edge : {i j : ℕ} → i ≡ f .from → j ≡ f .to → (pos : 0 < f .drop) → E i j (the-edge pos .up) (the-edge pos .down)
+    edge hi hj pos = rw (hi, hj) (record { row = q; below = below; edge = the-edge pos .edge })
+
+module _ (s w : List ℕ) (m n q : ℕ) (t : List ℕ) (r : RoundReady s w m n t) (below : q < m) where
+  module _ {x : Row} {o : ℕ} {f : Fall} (e : x ≡ rowAt s q) (ho : o ≡ x .over) (ef : f ≡ fallOf x (by w o)) where
     module _ {i j : ℕ} (hi : i ≡ f .from) (hj : j ≡ f .to) (pos : 0 < f .drop) where
-      edge : E i j (the-edge pos .up) (the-edge pos .down)
-      edge = rw (hi, hj) (record { row = q; below = below; edge = the-edge pos .edge })
+      abbrev falling : Falls s w q f
+      falling = the-edge s w m n q (r .ready) below e ho ef pos
+
+      leads : SheetEdge s w m i j (falling .up) (falling .down)
+      leads = edge s w m n q (r .ready) below e ho ef hi hj pos
+
+      h : (i < n) × (j < n)
+      h = in-plan s w m n q (r .ready) below i j (falling .up) (falling .down) leads
 
       pub may-lower : LowerReady n i j (f .drop) t
       may-lower =
-          let h = in-plan i j (the-edge pos .up) (the-edge pos .down) edge in
           record {
             capped = r .capped;
             few = r .ready .few;
             row = h .0;
             other = h .1;
-            enough = λ y l c. omega (arith, wide-in (raw t j y) c, not-far E n in-plan (r .ways) j y (h .1) l (wide-there (raw t j y) c), small pos);
+            enough = λ y l c. omega (arith, wide-in (raw t j y) c, not-far (SheetEdge s w m) n (in-plan s w m n q (r .ready) below) (r .ways) j y (h .1) l (wide-there (raw t j y) c), small s w m n q (r .ready) below e ho ef pos);
           }
 
       pub lowered : {t′ : List ℕ} → LowerDone n i j (f .drop) t t′ → RowDone s w m n q t t′
       lowered {t′} d = record {
-        ready = record { ready = r .ready; capped = d .capped; ways = eased-ways E n in-plan (d .eased) (h .0) (h .1) edge (the-edge pos .below) pos (r .ways) };
-        lower = eased-lower E n in-plan (d .eased) (h .0);
+        ready = record { ready = r .ready; capped = d .capped; ways = eased-ways (SheetEdge s w m) n (in-plan s w m n q (r .ready) below) (d .eased) (h .0) (h .1) leads (falling .below) pos (r .ways) };
+        lower = eased-lower (SheetEdge s w m) n (in-plan s w m n q (r .ready) below) (d .eased) (h .0);
         still = still;
         down = d .down;
       }
         where
-          h : (i < n) × (j < n)
-          h = in-plan i j (the-edge pos .up) (the-edge pos .down) edge
+          same-fall : f ≡ fallAt s w q
+          same-fall = is-fall s w m n q (r .ready) below e ho ef
 
           still : Still (Laid s w q) n (at t) (at t′)
           still X Z u d₁ y l neg hy fin =
               let k = only-fall s w q l neg in
-              let x≡ : X ≡ i = k .0 ∙ sym (rw is-fall at hi) in
-              let z≡ : Z ≡ j = k .1 ∙ sym (rw is-fall at hj) in
+              let x≡ : X ≡ i = k .0 ∙ sym (rw same-fall at hi) in
+              let z≡ : Z ≡ j = k .1 ∙ sym (rw same-fall at hj) in
               let via = d .eased .cell y hy .via (rw z≡ at fin) in
-              let same : f .drop ≡ fallAt s w q .drop = rw is-fall refl in
+              let same : f .drop ≡ fallAt s w q .drop = rw same-fall refl in
               rw (x≡, z≡) (omega (arith, via, k .2, same))
 
     pub no-fall : f .drop ≤ 0 → RowDone s w m n q t t
     no-fall none = record {
       ready = r;
       lower = λ X Y hx hy. omega arith;
-      still = λ X Z u d y l neg hy fin. absurd (omega (arith, only-fall s w q l neg .2, rw is-fall at none));
+      still = λ X Z u d y l neg hy fin. absurd (omega (arith, only-fall s w q l neg .2, rw (is-fall s w m n q (r .ready) below e ho ef) at none));
       down = λ y l. omega arith;
     }
 

@@ -4,3 +4,4 @@ pub mod Judging
 pub mod Ways
 pub mod Pairs
 pub mod Findings
+pub mod Once

@@ -11,7 +11,7 @@ use Rattle.plan.specs.Limits.{farthest}
 use Rattle.network.specs.Walks.{Walk, NonNegative, Vee}
 use Rattle.network.specs.Passing.{Consistent}
 use Rattle.tables.specs.Tables.{Table, bias, none, side, room}
-use Rattle.tables.specs.Entries.{nowhere, far, raw, at, Shallow}
+use Rattle.tables.specs.Entries.{nowhere, far, small, raw, at, Lesser, Shallow}
 use Rattle.tables.specs.Distances.{Distances}
 use Rattle.rows.specs.Sheet.{SheetReady, SheetEdge, Laid, rowAt, by, overAt}
 use Rattle.rows.specs.declared.sheet.Row.{Row}
@@ -52,6 +52,19 @@ pub record DroppedRow (n z drop : ℕ) (t l : List ℕ) : Type 0 where
   pub long : length l ≡ side
   pub each : (j : ℕ) → j < n → Dropped (raw t z j) drop (getD l j 0)
   pub past : (j : ℕ) → n ≤ j → j < side → getD l j 0 ≡ far
+
+-- what lowering row x of t by the row l asks, and what it does
+pub record RowReady (x : ℕ) (l t : List ℕ) : Type 0 where
+  pub capped : Capped t
+  pub row : x < side
+  pub long : length l ≡ side
+  pub small : (j : ℕ) → j < side → getD l j 0 < small
+
+pub record RowLowered (x : ℕ) (l t t′ : List ℕ) : Type 0 where
+  pub capped : Capped t′
+  pub done : (y : ℕ) → y < side → Lesser (getD l y 0) (raw t x y) (raw t′ x y)
+  pub rest : (v y : ℕ) → v ≢ x → y < side → raw t′ v y ≡ raw t v y
+  pub down : Down t t′
 
 pub record LowerReady (n x z drop : ℕ) (t : List ℕ) : Type 0 where
   pub capped : Capped t

@@ -3,6 +3,7 @@
 // every caller is proved to meet.
 ghost use Rattle.rows.specs.Sheet.{SheetEdge, SheetReady};
 ghost use Rattle.projection.specs.Findings.{FoundOf, JudgeReady};
+use once::is_good;
 use pairs::Pair;
 use pairs::first_pair;
 use rows::SHEET;
@@ -12,6 +13,7 @@ use tables::ROOM;
 use tables::SIDE;
 use ways::settle;
 
+mod once;
 mod pairs;
 mod ways;
 
@@ -22,8 +24,8 @@ pub enum Finding {
     Pair(u32, u32),
 }
 
-// What is found of the projection of a sheet's records that has these durations, where `all` has its distances.
-pub fn judge_by(
+// What is found of it by the least ways.
+fn judge_ways(
     all: &[u32; ROOM],
     durations: &[u64; SIDE],
     sheet: &[u64; SHEET],
@@ -42,6 +44,24 @@ pub fn judge_by(
         Pair::None => Finding::Good,
         Pair::At(x, y) => Finding::Pair(x, y),
     }
+}
+
+// What is found of the projection of a sheet's records that has these durations, where `all` has its distances.
+pub fn judge_by(
+    all: &[u32; ROOM],
+    durations: &[u64; SIDE],
+    sheet: &[u64; SHEET],
+    m: usize,
+    n: usize,
+    ways: &mut [u32; ROOM],
+) -> Finding
+    requires { ⌜ JudgeReady (now sheet) (now durations) m n (now all) ⌝ }
+    ensures { λ r. ⌜ FoundOf (SheetEdge (now (sheet .entry)) (now (durations .entry)) m) r ⌝ }
+{
+    if is_good(all, durations, sheet, m, n, &mut *ways) {
+        return Finding::Good;
+    }
+    judge_ways(all, durations, sheet, m, n, &mut *ways)
 }
 
 // What is found of the projection of a sheet's records that has these durations.

@@ -4,7 +4,7 @@
 ghost use mathlib.Core.Path.{_≡_};
 ghost use Prim.Native.Nat.{_+_, _<_, _≤_, min, _-_};
 ghost use Rattle.tables.specs.Entries.{nowhere};
-ghost use Rattle.projection.specs.Ways.{Capped, Dropped, DroppedRow, LowerReady, LowerDone, fallOf, sum, RoundReady, RowDone, Rounded, Settled};
+ghost use Rattle.projection.specs.Ways.{Capped, Dropped, DroppedRow, RowReady, RowLowered, LowerReady, LowerDone, fallOf, sum, RoundReady, RowDone, Rounded, Settled};
 use plan::LINK;
 use plan::ORDINARY;
 use plan::WAIT;
@@ -40,7 +40,7 @@ fn dropped(v: u32, drop: u32) -> u32
 }
 
 // Row `z` less `drop`. It is an array of its own, so that the compiler knows that no store to the table changes it.
-fn less(t: &[u32; ROOM], n: usize, x: usize, z: usize, drop: u32) -> [u32; SIDE]
+pub(crate) fn less(t: &[u32; ROOM], n: usize, x: usize, z: usize, drop: u32) -> [u32; SIDE]
     requires { ⌜ LowerReady n x z drop (now t) ⌝ }
     ensures { λ l. ⌜ DroppedRow n z drop (now (t .entry)) l ⌝ }
 {
@@ -52,16 +52,24 @@ fn less(t: &[u32; ROOM], n: usize, x: usize, z: usize, drop: u32) -> [u32; SIDE]
     l
 }
 
-// Row `x` lowered by row `z` less `drop`, four entries at a time.
+// Row `x` lowered by the row `l`, four entries at a time.
+pub(crate) fn lower_by(t: &mut [u32; ROOM], x: usize, l: [u32; SIDE])
+    requires { ⌜ RowReady x l (now t) ⌝ }
+    ensures { λ _. ⌜ RowLowered x l (now (t .entry)) (now (t .exit)) ⌝ }
+{
+    let here = x * SIDE;
+    for j in 0..SIDE {
+        t[here + j] = lesser(l[j], t[here + j]);
+    }
+}
+
+// Row `x` lowered by row `z` less `drop`.
 fn lower(t: &mut [u32; ROOM], n: usize, x: usize, z: usize, drop: u32)
     requires { ⌜ LowerReady n x z drop (now t) ⌝ }
     ensures { λ _. ⌜ LowerDone n x z drop (now (t .entry)) (now (t .exit)) ⌝ }
 {
     let l = less(&*t, n, x, z, drop);
-    let here = x * SIDE;
-    for j in 0..SIDE {
-        t[here + j] = lesser(l[j], t[here + j]);
-    }
+    lower_by(&mut *t, x, l);
 }
 
 // What `a` has more than `b`.
@@ -78,7 +86,7 @@ fn least(a: u64, b: u64) -> u64
 }
 
 // The negative edge of a row, whose link lasts `p`.
-fn fall_of(row: Row, p: u64) -> Fall
+pub(crate) fn fall_of(row: Row, p: u64) -> Fall
     ensures { λ f. ⌜ f ≡ fallOf row p ⌝ }
 {
     if row.kind == ORDINARY_ROW {

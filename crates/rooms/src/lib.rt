@@ -1,15 +1,12 @@
 // The rooms of an engine that keeps counts, filled from a plan for the fresh board: its records as rows, the three lists of them, and
 // what is kept. Takes any plan, and rooms that hold any numbers. An inner room: `begin` serves `engine`, `list` also
 // `steps`.
-ghost use mathlib.Core.Path.{_≡_};
 ghost use Prim.Native.Nat.{_≤_};
-ghost use lib.ListN.{length, replicate};
 ghost use Rattle.plan.specs.Limits.{mostRecords};
 ghost use Rattle.plan.specs.APlan.{recordsOf};
-ghost use Rattle.rows.specs.Sheet.{sheetRoom};
 ghost use Rattle.neighbours.specs.Lists.{keyAt, Indexed};
 ghost use Rattle.kept.specs.Begins.{Begun};
-ghost use Rattle.rooms.specs.Filling.{Copied, Laid, Filled, BeginsWith};
+ghost use Rattle.rooms.specs.Filling.{Filled, BeginsWith};
 
 mod begins;
 
@@ -20,7 +17,6 @@ use links::links_of;
 use neighbours::LIST;
 use neighbours::build;
 use plan::ACCEPTED;
-use plan::MOST_RECORDS;
 use plan::ORDINARY;
 use plan::Plan;
 use plan::WAIT;
@@ -35,9 +31,6 @@ pub struct Started {
     pub links: Links,
 }
 
-// How many numbers a row has.
-const WIDTH: usize = SHEET / MOST_RECORDS;
-
 // The fields of a row by which it is listed: the point that sets its record free, its first point, and its second.
 const TO: usize = 2;
 
@@ -50,41 +43,13 @@ const ORDINARY_ROW: u64 = ORDINARY as u64;
 
 const WAIT_ROW: u64 = WAIT as u64;
 
-fn zeros(rows: &mut [u64; SHEET])
-    ensures { λ _. ⌜ now (rows .exit) ≡ replicate sheetRoom 0 ⌝ }
-{
-    *rows = [0; SHEET];
-}
-
-// The first n numbers of a sheet, and zeros.
-fn copy(sheet: &[u64; SHEET], n: usize, rows: &mut [u64; SHEET])
-    requires { ⌜ n ≤ sheetRoom ⌝ }
-    ensures { λ _. ⌜ Copied (now (sheet .entry)) n (now (rows .exit)) ⌝ }
-{
-    zeros(&mut *rows);
-    for p in 0..n {
-        rows[p] = sheet[p];
-    }
-}
-
-// The rows of the records, and zeros.
-fn lay(plan: Plan, rows: &mut [u64; SHEET])
-    requires { ⌜ plan .count ≤ mostRecords ⌝ }
-    ensures { λ _. ⌜ Laid (recordsOf plan) (plan .count) (now (rows .exit)) ⌝ }
-{
-    let mut sheet: [u64; SHEET] = [0; SHEET];
-    lay_out(plan, &mut sheet);
-    let n = plan.count as usize * WIDTH;
-    copy(&sheet, n, &mut *rows);
-}
-
 // The lists of the rows, and the counts.
 pub fn list(
     rows: &[u64; SHEET],
     count: usize,
-    into: &mut [u32; LIST],
-    out: &mut [u32; LIST],
-    ends: &mut [u32; LIST],
+    into: &mut [u16; LIST],
+    out: &mut [u16; LIST],
+    ends: &mut [u16; LIST],
     kept: &mut [u32; KEPT],
 )
     requires { ⌜ count ≤ mostRecords ⌝ }
@@ -103,15 +68,15 @@ pub fn list(
 fn fill(
     plan: Plan,
     rows: &mut [u64; SHEET],
-    into: &mut [u32; LIST],
-    out: &mut [u32; LIST],
-    ends: &mut [u32; LIST],
+    into: &mut [u16; LIST],
+    out: &mut [u16; LIST],
+    ends: &mut [u16; LIST],
     kept: &mut [u32; KEPT],
 )
     requires { ⌜ plan .count ≤ mostRecords ⌝ }
     ensures { λ _. ⌜ Filled (recordsOf plan) (now (rows .exit)) (now (into .exit)) (now (out .exit)) (now (ends .exit)) (now (kept .exit)) ⌝ }
 {
-    lay(plan, &mut *rows);
+    lay_out(plan, &mut *rows);
     list(
         &*rows,
         plan.count as usize,
@@ -126,9 +91,9 @@ fn fill(
 pub fn begin(
     plan: Plan,
     rows: &mut [u64; SHEET],
-    into: &mut [u32; LIST],
-    out: &mut [u32; LIST],
-    ends: &mut [u32; LIST],
+    into: &mut [u16; LIST],
+    out: &mut [u16; LIST],
+    ends: &mut [u16; LIST],
     kept: &mut [u32; KEPT],
 ) -> Started
     ensures { λ s. ⌜ BeginsWith plan s (now (rows .entry)) (now (into .entry)) (now (out .entry)) (now (ends .entry)) (now (kept .entry)) (now (rows .exit)) (now (into .exit)) (now (out .exit)) (now (ends .exit)) (now (kept .exit)) ⌝ }

@@ -5,9 +5,9 @@ use mathlib.Core.Bool.{Bool, true, false, _&&_}
 use mathlib.Core.List.{List, [], _∷_}
 use Prim.Native.Nat.{ℕ, suc, _+_, _-_, _*_, _<_, _≤_}
 use native.Mathlib.Omega.{arith}
-use native.Mathlib.Decide.{ℕ-discrete}
+use native.Mathlib.Decide.{ℕ-discrete, decLt}
 use lib.Dec.{eqb}
-use lib.ListN.{length, getD, set, drop, replicate, length-set, length-take, length-replicate, getD-replicate}
+use lib.ListN.{length, getD, set, drop, replicate, length-set, length-take, length-replicate, getD-replicate, List·getD-eq-default}
 use lib.Seq.{getD-set-same, getD-set-other, getD-take, drop-cons, drop-length}
 use borrow.Author.Tests.{eq-eqb, ne-eqb}
 use Rattle.plan.specs.Choice.{if_then_else_}
@@ -25,6 +25,7 @@ pub record Written (q : ℕ) (x : Row) (s s′ : List ℕ) : Type 0 where
   pub long : length s′ ≡ sheetRoom
   pub here : RowIs s′ q x
   pub other : (q′ : ℕ) → q′ ≢ q → (x′ : Row) → RowIs s q′ x′ → RowIs s′ q′ x′
+  pub past : (p : ℕ) → (q + 1) * width ≤ p → (r : ℕ) → getD s p 0 ≡ r → getD s′ p 0 ≡ r
 
 skip : (l : List ℕ) (i j v r : ℕ) → j ≢ i → getD l j 0 ≡ r → getD (set l i v) j 0 ≡ r
 skip l i j v r n e = getD-set-other l i j v 0 n ∙ e
@@ -73,7 +74,7 @@ module _ (q : ℕ) (x : Row) (s : List ℕ) (h : q < mostRecords) (long : length
       skip s5 (a + 5) p (x .over) r (n .5) (skip s4 (a + 4) p (x .second) r (n .4) (skip s3 (a + 3) p (x .first) r (n .3) (skip s2 (a + 2) p (x .to) r (n .2) (skip s1 (a + 1) p (x .from) r (n .1) (skip s a p (x .kind) r (n .0) e)))))
 
   written : Written q x s s6
-  written = record { long = same-room; here = here; other = other }
+  written = record { long = same-room; here = here; other = other; past = λ p l r e. far p r (omega arith, omega arith, omega arith, omega arith, omega arith, omega arith) e }
     where
       apart : (q′ j : ℕ) → q′ ≢ q → j < width → (q′ * width + j ≢ q * width) × (q′ * width + j ≢ q * width + 1) × (q′ * width + j ≢ q * width + 2) × (q′ * width + j ≢ q * width + 3) × (q′ * width + j ≢ q * width + 4) × (q′ * width + j ≢ q * width + 5)
       apart q′ j n l = (omega arith, omega arith, omega arith, omega arith, omega arith, omega arith)
@@ -91,13 +92,24 @@ module _ (q : ℕ) (x : Row) (s : List ℕ) (h : q < mostRecords) (long : length
         over = far (q′ * width + 5) (x′ .over) (apart q′ 5 n (omega arith)) (r .over);
       }
 
--- the rows below q
+-- the rows below q, and zeros behind them
 pub record Laying (rs : List Record) (q : ℕ) (s : List ℕ) : Type 0 where
   pub long : length s ≡ sheetRoom
   pub rows : (q′ : ℕ) → q′ < q → RowIs s q′ (rowOf rs (getD rs q′ blank))
+  pub rest : (p : ℕ) → q * width ≤ p → getD s p 0 ≡ 0
+
+pub start : {rs : List Record} {s : List ℕ} → s ≡ replicate sheetRoom 0 → Laying rs 0 s
+start {rs} {s} e = record { long = long; rows = λ q h. absurd (omega arith); rest = λ p h. zero-at p (decLt p sheetRoom) }
+  where
+    long : length s ≡ sheetRoom
+    long = rw e (length-replicate {A = ℕ} sheetRoom 0)
+
+    zero-at : (p : ℕ) → Dec (p < sheetRoom) → getD s p 0 ≡ 0
+    zero-at p (yes l) = rw e (getD-replicate {A = ℕ} sheetRoom p 0 0 l)
+    zero-at p (no m) = List·getD-eq-default s 0 (omega (arith, long))
 
 pub turn : {rs : List Record} {q : ℕ} {s s′ : List ℕ} → Laying rs q s → Written q (rowOf rs (getD rs q blank)) s s′ → Laying rs (q + 1) s′
-turn {rs} {q} {s} {s′} l w = record { long = w .long; rows = rows }
+turn {rs} {q} {s} {s′} l w = record { long = w .long; rows = rows; rest = λ p h. w .past p h 0 (l .rest p (omega arith)) }
   where
     rows : (q′ : ℕ) → q′ < q + 1 → RowIs s′ q′ (rowOf rs (getD rs q′ blank))
     rows q′ h = elim (ℕ-discrete q′ q) [
@@ -105,8 +117,8 @@ turn {rs} {q} {s} {s′} l w = record { long = w .long; rows = rows }
       | no e ↦ w .other q′ e (rowOf rs (getD rs q′ blank)) (l .rows q′ (omega arith))
     ]
 
-pub ended : {rs : List Record} {q : ℕ} {s : List ℕ} → length rs ≤ q → Laying rs q s → LaidOut rs s
-ended h l = record { rows = λ q k. l .rows q (omega arith) }
+pub ended : {rs : List Record} {q : ℕ} {s : List ℕ} → length rs ≡ q → Laying rs q s → LaidOut rs s
+ended h l = record { rows = λ q k. l .rows q (omega arith); long = l .long; rest = λ p k. l .rest p (omega arith) }
 
 -- ---- where links start
 
@@ -174,8 +186,8 @@ laid-row : (p : Plan) (q : ℕ) {x : Row} {s s′ : List ℕ} → p .count ≤ m
     → Written q (rowOf (recordsOf p) (getD (recordsOf p) q blank)) s s′
 laid-row p q {x} {s} few h long e w = rw (getD-take (p .count) (p .records) q blank h, ← e, w) (written q x s (omega arith) long)
 
-pub records-in : (p : Plan) {q : ℕ} → length (p .records) ≡ mostRecords → p .count ≤ mostRecords → p .count ≤ q → length (recordsOf p) ≤ q
-records-in p long few h = omega (arith, length-take (p .count) (p .records))
+pub records-in : (p : Plan) {q : ℕ} → length (p .records) ≡ mostRecords → p .count ≤ mostRecords → q ≤ p .count → p .count ≤ q → length (recordsOf p) ≡ q
+records-in p long few h g = omega (arith, length-take (p .count) (p .records))
 
 -- a row put together from its parts
 pub row-is : (r : Record) (start : ℕ) {k f t x y o a up down : ℕ} {g g′ : Gap}

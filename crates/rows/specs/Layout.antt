@@ -1,13 +1,13 @@
 -- The sheet of a plan: the row of each record. A reader of the rules can leave this page out. Assumes nothing.
 use mathlib.Core.Path.{_≡_}
 use mathlib.Core.List.{List}
-use Prim.Native.Nat.{ℕ, _+_, _*_, _<_}
+use Prim.Native.Nat.{ℕ, _+_, _*_, _<_, _≤_}
 use lib.ListN.{length, getD, set}
 use Rattle.plan.specs.Choice.{if_then_else_}
 use Rattle.plan.specs.APlan.{link, wait, is, blank, gapOf, linkTo}
 use Rattle.records.specs.declared.Record.{Record}
 use Rattle.rows.specs.declared.sheet.Row.{Row}
-use Rattle.rows.specs.Sheet.{kindAt, fromAt, toAt, firstAt, secondAt, overAt, width}
+use Rattle.rows.specs.Sheet.{kindAt, fromAt, toAt, firstAt, secondAt, overAt, width, sheetRoom}
 
 -- the row of the record r, where start is the A of the link that ends at its second point
 abbrev pub rowFrom : Record → ℕ → Row
@@ -52,6 +52,8 @@ stored s q x =
     (q * width + 5)
     (x .over)
 
--- each record has its row
+-- each record has its row, and behind the rows are zeros
 pub record LaidOut (rs : List Record) (s : List ℕ) : Type 0 where
   pub rows : (q : ℕ) → q < length rs → RowIs s q (rowOf rs (getD rs q blank))
+  pub long : length s ≡ sheetRoom
+  pub rest : (p : ℕ) → length rs * width ≤ p → getD s p 0 ≡ 0

@@ -1,7 +1,7 @@
 // A plan's records laid out on a sheet.
 ghost use mathlib.Core.Path.{_≡_};
 ghost use Prim.Native.Nat.{_≤_, _<_};
-ghost use lib.ListN.{length};
+ghost use lib.ListN.{replicate};
 ghost use Rattle.plan.specs.Choice.{if_then_else_};
 ghost use Rattle.plan.specs.APlan.{recordsOf};
 ghost use Rattle.plan.specs.Limits.{mostRecords};
@@ -93,11 +93,18 @@ fn write_row(sheet: &mut [u64; SHEET], q: usize, row: Row)
     sheet[at + 5] = row.over;
 }
 
-// The sheet of a plan.
+fn zeros(sheet: &mut [u64; SHEET])
+    ensures { λ _. ⌜ now (sheet .exit) ≡ replicate sheetRoom 0 ⌝ }
+{
+    *sheet = [0; SHEET];
+}
+
+// The sheet of a plan, and zeros behind its rows, whatever the sheet held.
 pub fn lay_out(plan: Plan, sheet: &mut [u64; SHEET])
-    requires { ⌜ (plan .count ≤ mostRecords) × (length (now sheet) ≡ sheetRoom) ⌝ }
+    requires { ⌜ plan .count ≤ mostRecords ⌝ }
     ensures { λ _. ⌜ LaidOut (recordsOf plan) (now (sheet .exit)) ⌝ }
 {
+    zeros(&mut *sheet);
     let starts = starts_of(plan);
     let count = plan.count as usize;
     for q in 0..count {

@@ -66,9 +66,9 @@ fn starts_of(sheet: &[u64; SHEET], m: usize) -> [u8; SIDE]
 pub fn begin_rooms(
     sheet: &[u64; SHEET],
     m: usize,
-    into: &mut [u32; LIST],
-    out: &mut [u32; LIST],
-    ends: &mut [u32; LIST],
+    into: &mut [u16; LIST],
+    out: &mut [u16; LIST],
+    ends: &mut [u16; LIST],
     begun: &mut [u32; KEPT],
 ) -> [u8; SIDE]
     requires { ⌜ m ≤ mostRecords ⌝ }

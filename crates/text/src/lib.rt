@@ -27,6 +27,7 @@ use replies::Place;
 use replies::Reply;
 use replies::State;
 use shut::shut_line;
+pub use shut::signed;
 use vee::Answer;
 use verdict::Verdict;
 

@@ -20,7 +20,7 @@ const ORDINARY: u64 = 0x7972616e6964726f;
 const WAIT: u64 = 0x74696177;
 
 // A number, which may be below zero.
-fn signed(d: i32) -> Piece
+pub fn signed(d: i32) -> Piece
     ensures { λ p. ⌜ p ≡ signedPiece d ⌝ }
 {
     let gap = split(d);

@@ -4,6 +4,7 @@ mod Answers
 pub mod Tests
 pub mod Words
 pub mod Tells
+pub mod Digits
 pub mod Says
 pub mod Codes
 pub mod Fit

@@ -34,9 +34,9 @@ pub(crate) fn worst_run(sheet: &[u64; SHEET], m: usize, n: u32, links: usize, ma
     requires { ⌜ WorstAsks (now sheet) m n links many ⌝ }
     ensures { λ r. ⌜ FoundOf (now (sheet .entry)) m n links many r ⌝ }
 {
-    let mut into = [0u32; LIST];
-    let mut out = [0u32; LIST];
-    let mut ends = [0u32; LIST];
+    let mut into = [0u16; LIST];
+    let mut out = [0u16; LIST];
+    let mut ends = [0u16; LIST];
     let mut begun = [0u32; KEPT];
     let starts = begin_rooms(sheet, m, &mut into, &mut out, &mut ends, &mut begun);
     let mut log = [0u8; LOG];

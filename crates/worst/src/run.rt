@@ -57,9 +57,9 @@ fn event_bytes(e: Event) -> [u8; RECORD_BYTES]
 
 pub(crate) fn run(
     sheet: &[u64; SHEET],
-    into: &[u32; LIST],
-    out: &[u32; LIST],
-    ends: &[u32; LIST],
+    into: &[u16; LIST],
+    out: &[u16; LIST],
+    ends: &[u16; LIST],
     begun: [u32; KEPT],
     starts: &[u8; SIDE],
     n: u32,
@@ -107,9 +107,9 @@ pub(crate) fn write_day(
     requires { ⌜ DayAsks (now sheet) m n (now durations) ⌝ }
     ensures { λ d. ⌜ DayAs (now (sheet .entry)) m n (now (durations .entry)) (now (buffer .entry)) (now (buffer .exit)) d ⌝ }
 {
-    let mut into = [0u32; LIST];
-    let mut out = [0u32; LIST];
-    let mut ends = [0u32; LIST];
+    let mut into = [0u16; LIST];
+    let mut out = [0u16; LIST];
+    let mut ends = [0u16; LIST];
     let mut begun = [0u32; KEPT];
     let starts = begin_rooms(sheet, m, &mut into, &mut out, &mut ends, &mut begun);
     let mut log = [0u8; LOG];

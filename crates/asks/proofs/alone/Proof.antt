@@ -2,12 +2,9 @@
 use native.Mathlib.Omega.{arith}
 use borrow.Author.Needs.{needs}
 use mathlib.Core.Path.{sym, _∙_}
-use Rattle.asks.proofs.Known.{is-test, is-worst, is-import, is-close, is-lighter, is-pack, is-none}
+use Rattle.asks.proofs.Known.{is-test, is-worst, is-import, is-close, is-lighter, is-rest}
 use Rattle.asks.proofs.alone.Statement.{statement}
 use Rattle.asks.proofs.alone.Tie as tie
-use Rattle.asks.proofs.alone.Reads as reads
-use Rattle.asks.proofs.alone.Lts as lts
-use Rattle.asks.proofs.is_verb.Reads as is-verb-reads
 
 is-verb-requires : tie.Need-is-verb-requires
 is-verb-requires c κs = search needs
@@ -43,28 +40,18 @@ returns-5 c =
     is-lighter _ (sym (c .before .before .before .before .before .before .before .before .before .is-verb .ensures) ∙ c .before .before .before .before .before .before .before .before .if1 .left) (sym (c .before .before .before .before .before .before .before .is-verb2 .ensures) ∙ c .before .before .before .before .before .before .if2 .left) (sym (c .before .before .before .before .before .is-verb3 .ensures) ∙ c .before .before .before .before .if3 .left)
     (sym (c .before .before .before .is-verb4 .ensures) ∙ c .before .before .if4 .left) (sym (c .before .is-verb5 .ensures) ∙ c .if5 .taken)
 
-is-verb-requires-6 : tie.Need-is-verb-requires-6
-is-verb-requires-6 c κs = search needs
+typing-requires : tie.Need-typing-requires
+typing-requires c κs = search needs
 
 returns-6 : tie.Need-returns-6
 returns-6 c =
-    is-pack _
-    (sym (c .before .before .before .before .before .before .before .before .before .before .before .is-verb .ensures) ∙ c .before .before .before .before .before .before .before .before .before .before .if1 .left)
-    (sym (c .before .before .before .before .before .before .before .before .before .is-verb2 .ensures) ∙ c .before .before .before .before .before .before .before .before .if2 .left)
-    (sym (c .before .before .before .before .before .before .before .is-verb3 .ensures) ∙ c .before .before .before .before .before .before .if3 .left)
-    (sym (c .before .before .before .before .before .is-verb4 .ensures) ∙ c .before .before .before .before .if4 .left)
-    (sym (c .before .before .before .is-verb5 .ensures) ∙ c .before .before .if5 .left)
-    (sym (c .before .is-verb6 .ensures) ∙ c .if6 .taken)
-
-returns-7 : tie.Need-returns-7
-returns-7 c =
-    is-none _
-    (sym (c .before .before .before .before .before .before .before .before .before .before .before .is-verb .ensures) ∙ c .before .before .before .before .before .before .before .before .before .before .if1 .left)
-    (sym (c .before .before .before .before .before .before .before .before .before .is-verb2 .ensures) ∙ c .before .before .before .before .before .before .before .before .if2 .left)
-    (sym (c .before .before .before .before .before .before .before .is-verb3 .ensures) ∙ c .before .before .before .before .before .before .if3 .left)
-    (sym (c .before .before .before .before .before .is-verb4 .ensures) ∙ c .before .before .before .before .if4 .left)
-    (sym (c .before .before .before .is-verb5 .ensures) ∙ c .before .before .if5 .left)
-    (sym (c .before .is-verb6 .ensures) ∙ c .if6 .left)
+    c .typing .ensures
+    ∙ is-rest _
+    (sym (c .before .before .before .before .before .before .before .before .before .before .is-verb .ensures) ∙ c .before .before .before .before .before .before .before .before .before .if1 .left)
+    (sym (c .before .before .before .before .before .before .before .before .is-verb2 .ensures) ∙ c .before .before .before .before .before .before .before .if2 .left)
+    (sym (c .before .before .before .before .before .before .is-verb3 .ensures) ∙ c .before .before .before .before .before .if3 .left)
+    (sym (c .before .before .before .before .is-verb4 .ensures) ∙ c .before .before .before .if4 .left)
+    (sym (c .before .before .is-verb5 .ensures) ∙ c .before .if5 .left)
 
 pub alone-spec : {M : Type 1} → statement M
 alone-spec =
@@ -80,6 +67,5 @@ alone-spec =
     returns-4
     is-verb-requires-5
     returns-5
-    is-verb-requires-6
-    returns-6
-    returns-7)
+    typing-requires
+    returns-6)

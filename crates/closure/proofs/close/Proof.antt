@@ -1,5 +1,4 @@
 -- `closure::close` meets its contract. Assumes nothing.
-use mathlib.Core.Path.{refl}
 use lib.ListN.{length-map}
 use borrow.Author.Needs.{needs}
 use Rattle.closure.proofs.Closes.{close-refused, few-records, close-steps, fill-ready, few-points, points-ready, close-cycle, close-far, close-made}
@@ -26,7 +25,7 @@ returns-2 c =
     close-steps _ (c .before .before .before .before .before .check .ensures) (c .before .before .before .if1 .left) (c .before .before .has-steps .ensures) (c .before .if2 .taken) (c .refuse2 .ensures)
 
 lay-out-requires : tie.Need-lay-out-requires
-lay-out-requires c κs = (few-records _ (c .before .before .before .before .before .check .ensures) (c .before .before .before .if1 .left), refl)
+lay-out-requires c κs = few-records _ (c .before .before .before .before .before .check .ensures) (c .before .before .before .if1 .left)
 
 points-of-requires : tie.Need-points-of-requires
 points-of-requires c κs = search needs

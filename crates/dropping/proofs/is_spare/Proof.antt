@@ -1,9 +1,7 @@
 -- `dropping::is_spare` meets its contract. Assumes nothing.
 use mir.Syntax.{w32}
 use mir.ValLaws.{toZ-ofZ}
-use Prim.Native.Nat.{ℕ}
-use lib.ListN.{length-map, length-replicate}
-use Rattle.rows.specs.Sheet.{sheetRoom}
+use lib.ListN.{length-map}
 use Rattle.dropping.proofs.Fitting.{spare-other, spare-few, spare-bounds, spare-all, spare-found}
 use native.Mathlib.Omega.{arith}
 use borrow.Author.Needs.{needs, sfits-of}
@@ -14,7 +12,7 @@ returns : tie.Need-returns
 returns c = spare-other (c .before .before .pre) (λ e. omega (arith, e, c .if1 .taken))
 
 lay-out-requires : tie.Need-lay-out-requires
-lay-out-requires c κs = (spare-few (c .before .before .before .pre) (omega (arith, c .before .if1 .left)), length-replicate {A = ℕ} sheetRoom 0)
+lay-out-requires c κs = spare-few (c .before .before .before .pre) (omega (arith, c .before .if1 .left))
 
 points-of-requires : tie.Need-points-of-requires
 points-of-requires c κs = search needs

@@ -5,8 +5,8 @@ use Rattle.rooms.proofs.Beginning.{filled-by}
 use Rattle.rooms.proofs.fill.Statement.{statement}
 use Rattle.rooms.proofs.fill.Tie as tie
 
-lay-requires : tie.Need-lay-requires
-lay-requires c κs = search needs
+lay-out-requires : tie.Need-lay-out-requires
+lay-out-requires c κs = search needs
 
 cast-list : tie.Need-cast-list
 cast-list c = search needs
@@ -18,7 +18,7 @@ returns : tie.Need-returns
 returns c =
     let s = c .before .before .before .before .before .before .before .before .before in
     let l = c .list .ensures in
-    filled-by _ _ _ _ _ _ (s .pre) (rw length-map at (s .good .0 .1 .1 .1 .0 .1 .0 .1)) (c .before .before .before .before .before .before .before .lay .ensures) (l .0) (l .1 .0) (l .1 .1 .0) (l .1 .1 .1)
+    filled-by _ _ _ _ _ _ (s .pre) (rw length-map at (s .good .0 .1 .1 .1 .0 .1 .0 .1)) (c .before .before .before .before .before .before .before .lay-out .ensures) (l .0) (l .1 .0) (l .1 .1 .0) (l .1 .1 .1)
 
 pub fill-spec : {M : Type 1} → statement M
-fill-spec = tie.close (tie.spec lay-requires cast-list list-requires returns)
+fill-spec = tie.close (tie.spec lay-out-requires cast-list list-requires returns)

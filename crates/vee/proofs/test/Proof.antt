@@ -1,8 +1,6 @@
 -- `vee::test` meets its contract. Assumes nothing.
 use Rattle.vee.proofs.Testing.{refused-plan, few-records, rows-ready, too-many-plan, walk-ready, tested-plan}
-use Rattle.rows.specs.Sheet.{sheetRoom}
-use lib.ListN.{length-map, length-replicate}
-use Prim.Native.Nat.{ℕ}
+use lib.ListN.{length-map}
 use native.Mathlib.Omega.{arith}
 use borrow.Author.Needs.{needs}
 use Rattle.vee.proofs.Single.{test-numbered}
@@ -16,7 +14,7 @@ returns : tie.Need-returns
 returns c = test-numbered (refused-plan _ (c .before .before .check .ensures) (c .if1 .taken))
 
 lay-out-requires : tie.Need-lay-out-requires
-lay-out-requires c κs = (few-records _ (c .before .before .before .check .ensures) (c .before .if1 .left), length-replicate {A = ℕ} sheetRoom 0)
+lay-out-requires c κs = few-records _ (c .before .before .before .check .ensures) (c .before .if1 .left)
 
 points-of-requires : tie.Need-points-of-requires
 points-of-requires c κs = search needs

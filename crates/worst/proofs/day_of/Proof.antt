@@ -1,7 +1,5 @@
 -- `worst::day_of` meets its contract. Assumes nothing.
-use Prim.Native.Nat.{ℕ}
-use lib.ListN.{length-map, length-replicate}
-use Rattle.rows.specs.Sheet.{sheetRoom}
+use lib.ListN.{length-map}
 use Rattle.worst.proofs.Searching.{few-rows}
 use Rattle.worst.proofs.Answering.{day-refused, day-past, few-records, all-ready, day-chooses, day-asks, day-found}
 use native.Mathlib.Omega.{arith}
@@ -32,7 +30,7 @@ returns-2 c =
     day-past (c .before .before .before .before .before .before .test .ensures .0) (c .before .before .before .before .before .refused-by .ensures) _ _ (c .before .before .before .if1 .left) (c .before .before .many-by .ensures) (omega (arith, c .before .if2 .taken)) (c .day-as2 .ensures)
 
 lay-out-requires : tie.Need-lay-out-requires
-lay-out-requires c κs = (few-records (c .before .before .before .before .before .before .test .ensures .0) (c .before .before .before .before .before .refused-by .ensures) (c .before .before .before .if1 .left), length-replicate {A = ℕ} sheetRoom 0)
+lay-out-requires c κs = few-records (c .before .before .before .before .before .before .test .ensures .0) (c .before .before .before .before .before .refused-by .ensures) (c .before .before .before .if1 .left)
 
 points-of-requires : tie.Need-points-of-requires
 points-of-requires c κs = search needs

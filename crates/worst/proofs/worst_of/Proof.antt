@@ -1,7 +1,5 @@
 -- `worst::worst_of` meets its contract. Assumes nothing.
-use Prim.Native.Nat.{ℕ}
-use lib.ListN.{length-map, length-replicate}
-use Rattle.rows.specs.Sheet.{sheetRoom}
+use lib.ListN.{length-map}
 use Rattle.worst.proofs.Answering.{worst-refused, few-records, all-ready, worst-found}
 use native.Mathlib.Omega.{arith}
 use borrow.Author.Needs.{needs}
@@ -18,7 +16,7 @@ returns : tie.Need-returns
 returns c = worst-refused (c .before .before .before .test .ensures .0) (c .before .before .refused-by .ensures) (c .if1 .taken)
 
 lay-out-requires : tie.Need-lay-out-requires
-lay-out-requires c κs = (few-records (c .before .before .before .before .test .ensures .0) (c .before .before .before .refused-by .ensures) (c .before .if1 .left), length-replicate {A = ℕ} sheetRoom 0)
+lay-out-requires c κs = few-records (c .before .before .before .before .test .ensures .0) (c .before .before .before .refused-by .ensures) (c .before .if1 .left)
 
 points-of-requires : tie.Need-points-of-requires
 points-of-requires c κs = search needs

@@ -12,10 +12,10 @@ index-requires : tie.Need-index-requires
 index-requires c κs = search needs
 
 mul-p : tie.Need-mul-p
-mul-p c = omega (arith, over-in _ _ _ _ _ _ (c .before .before .pre .0) (c .before .before .pre .1) (c .before .row-at .ensures) (c .index .ensures))
+mul-p c = omega (arith, over-in _ _ _ _ _ (c .before .before .pre .0 .ready) (c .before .before .pre .1) (c .before .row-at .ensures) (c .index .ensures))
 
 element-copy-out-p : tie.Need-element-copy-out-p
-element-copy-out-p c = omega (arith, over-in _ _ _ _ _ _ (c .before .before .pre .0) (c .before .before .pre .1) (c .before .row-at .ensures) (c .index .ensures))
+element-copy-out-p c = omega (arith, over-in _ _ _ _ _ (c .before .before .pre .0 .ready) (c .before .before .pre .1) (c .before .row-at .ensures) (c .index .ensures))
 
 fall-of-requires : tie.Need-fall-of-requires
 fall-of-requires c κs = search needs
@@ -27,7 +27,7 @@ index-requires-3 : tie.Need-index-requires-3
 index-requires-3 c κs = search needs
 
 cast-lower : tie.Need-cast-lower
-cast-lower c = omega (arith, small _ _ _ _ _ _ (c .before .before .before .before .before .before .before .before .before .before .pre .0) (c .before .before .before .before .before .before .before .before .before .before .pre .1) (c .before .before .before .before .before .before .before .before .before .row-at .ensures) (c .before .before .before .before .before .before .before .before .index .ensures) (c .before .before .before .before .before .before .fall-of .ensures) (omega (arith, c .before .before .before .before .if1 .taken)))
+cast-lower c = omega (arith, small _ _ _ _ _ (c .before .before .before .before .before .before .before .before .before .before .pre .0 .ready) (c .before .before .before .before .before .before .before .before .before .before .pre .1) (c .before .before .before .before .before .before .before .before .before .row-at .ensures) (c .before .before .before .before .before .before .before .before .index .ensures) (c .before .before .before .before .before .before .fall-of .ensures) (omega (arith, c .before .before .before .before .if1 .taken)))
 
 lower-requires : tie.Need-lower-requires
 lower-requires c κs = may-lower _ _ _ _ _ _ (c .before .before .before .before .before .before .before .before .before .before .pre .0) (c .before .before .before .before .before .before .before .before .before .before .pre .1) (c .before .before .before .before .before .before .before .before .before .row-at .ensures) (c .before .before .before .before .before .before .before .before .index .ensures) (c .before .before .before .before .before .before .fall-of .ensures) (c .before .before .index2 .ensures) (c .before .index3 .ensures) (omega (arith, c .before .before .before .before .if1 .taken))

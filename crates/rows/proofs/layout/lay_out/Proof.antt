@@ -1,6 +1,6 @@
 -- `rows::layout::lay_out` meets its contract. Assumes nothing.
 use Rattle.rows.specs.Layout.{Starts}
-use Rattle.rows.proofs.Layouts.{Laying, turn, ended, laid-started, records-in}
+use Rattle.rows.proofs.Layouts.{Laying, start, turn, ended, laid-started, records-in}
 use Rattle.plan.specs.APlan.{recordsOf}
 use lib.ListN.{length-map}
 use Prim.Native.Nat.{ℕ, _-_, _≤_}
@@ -15,6 +15,9 @@ Inv-loop sheet₀ plan starts count q₀ sheet q = (q ≤ count) × Starts (reco
 abbrev μ-loop : tie.MeasureT-loop
 μ-loop sheet₀ plan starts count q₀ sheet q = count - q
 
+zeros-requires : tie.Need-zeros-requires Inv-loop μ-loop
+zeros-requires c κs = search needs
+
 starts-of-requires : tie.Need-starts-of-requires Inv-loop μ-loop
 starts-of-requires c κs = search needs
 
@@ -22,7 +25,7 @@ cast-count : tie.Need-cast-count Inv-loop μ-loop
 cast-count c = search needs
 
 loop-holds : tie.Need-loop-holds Inv-loop μ-loop
-loop-holds c = (omega arith, c .starts-of .ensures, record { long = c .before .pre .1; rows = λ q h. absurd (omega arith) })
+loop-holds c = (omega arith, c .starts-of .ensures, start (c .before .zeros .ensures))
 
 mul-r : tie.Need-mul-r Inv-loop μ-loop
 mul-r c = search needs
@@ -40,7 +43,7 @@ row-of-requires : tie.Need-row-of-requires Inv-loop μ-loop
 row-of-requires c κs = search needs
 
 write-row-requires : tie.Need-write-row-requires Inv-loop μ-loop
-write-row-requires c κs = omega (arith, c .before .before .before .before .loop-test .taken, c .before .before .before .before .before .before .before .pre .0)
+write-row-requires c κs = omega (arith, c .before .before .before .before .loop-test .taken, c .before .before .before .before .before .before .before .before .before .pre)
 
 add-q : tie.Need-add-q Inv-loop μ-loop
 add-q c = search needs
@@ -49,10 +52,10 @@ loop-less : tie.Need-loop-less Inv-loop μ-loop
 loop-less c = search needs
 
 loop-again : tie.Need-loop-again Inv-loop μ-loop
-loop-again c = let v = c .before .before .before .before .before .before .loop .inv in (omega arith, v .1, turn (v .2) (laid-started _ _ (c .before .before .before .before .before .before .before .before .pre .0) (c .before .before .before .before .before .loop-test .taken) (v .2 .long) (v .1) (omega (arith, c .before .before .struct-known .given .1 .1 .0 .fits)) (c .before .row-of .ensures) (c .write-row .ensures)))
+loop-again c = let v = c .before .before .before .before .before .before .loop .inv in (omega arith, v .1, turn (v .2) (laid-started _ _ (c .before .before .before .before .before .before .before .before .before .before .pre) (c .before .before .before .before .before .loop-test .taken) (v .2 .long) (v .1) (omega (arith, c .before .before .struct-known .given .1 .1 .0 .fits)) (c .before .row-of .ensures) (c .write-row .ensures)))
 
 returns : tie.Need-returns Inv-loop μ-loop
-returns c = ended (records-in _ (rw length-map at (c .before .before .before .good .0 .1 .1 .1 .0 .1 .0 .1)) (c .before .before .before .pre .0) (c .loop-test .left)) (c .before .loop .inv .2)
+returns c = ended (records-in _ (rw length-map at (c .before .before .before .before .before .good .0 .1 .1 .1 .0 .1 .0 .1)) (c .before .before .before .before .before .pre) (c .before .loop .inv .0) (c .loop-test .left)) (c .before .loop .inv .2)
 
 pub lay-out-spec : {M : Type 1} → statement M
 lay-out-spec =
@@ -60,6 +63,7 @@ lay-out-spec =
     (tie.spec
     Inv-loop
     μ-loop
+    zeros-requires
     starts-of-requires
     cast-count
     loop-holds

@@ -1,0 +1,25 @@
+-- `asks::typing` meets its contract. Assumes nothing.
+use native.Mathlib.Omega.{arith}
+use borrow.Author.Needs.{needs}
+use mathlib.Core.Path.{sym, _∙_}
+use Rattle.asks.proofs.Known.{is-pack, is-list, no-typing}
+use Rattle.asks.proofs.typing.Statement.{statement}
+use Rattle.asks.proofs.typing.Tie as tie
+
+is-verb-requires : tie.Need-is-verb-requires
+is-verb-requires c κs = search needs
+
+returns : tie.Need-returns
+returns c = is-pack _ (sym (c .before .is-verb .ensures) ∙ c .if1 .taken)
+
+is-verb-requires-2 : tie.Need-is-verb-requires-2
+is-verb-requires-2 c κs = search needs
+
+returns-2 : tie.Need-returns-2
+returns-2 c = is-list _ (sym (c .before .before .before .is-verb .ensures) ∙ c .before .before .if1 .left) (sym (c .before .is-verb2 .ensures) ∙ c .if2 .taken)
+
+returns-3 : tie.Need-returns-3
+returns-3 c = no-typing _ (sym (c .before .before .before .is-verb .ensures) ∙ c .before .before .if1 .left) (sym (c .before .is-verb2 .ensures) ∙ c .if2 .left)
+
+pub typing-spec : {M : Type 1} → statement M
+typing-spec = tie.close (tie.spec is-verb-requires returns is-verb-requires-2 returns-2 returns-3)

@@ -1,0 +1,3 @@
+-- How rooms of numbers are filled and read.
+mod Putting
+mod Taking

@@ -1,0 +1,2 @@
+-- What the engine answers over lent rooms.
+mod OfRooms

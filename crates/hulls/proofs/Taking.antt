@@ -12,13 +12,13 @@ use Rattle.board.specs.declared.Board.{Board}
 use Rattle.engine.specs.Takes.{TableAt, BoardIn}
 use Rattle.hulls.specs.Rooms.{tableIn, boardIn}
 
-from-long : (n p : ℕ) → length (from p n) ≡ n
+pub from-long : (n p : ℕ) → length (from p n) ≡ n
 unfolding from
 from-long zero p = refl
 from-long (suc n) p = ap suc (from-long n (suc p))
 
 module _ {A : Type 0} (f : ℕ → A) (d : A) where
-  map-at : (n p i : ℕ) → i < n → getD (map f (from p n)) i d ≡ f (p + i)
+  pub map-at : (n p i : ℕ) → i < n → getD (map f (from p n)) i d ≡ f (p + i)
   unfolding from
   map-at zero p i h = absurd (omega arith)
   map-at (suc n) p zero h = let e : p + 0 ≡ p = omega arith in rw e

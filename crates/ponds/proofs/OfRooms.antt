@@ -53,6 +53,7 @@ module _ (s links₀ rows₀ into₀ out₀ ends₀ kept₀ : List ℕ) (x : Rea
         refused = λ z. absurd (z (sym (ap (λ (w : Reading). w .number) e) ∙ h));
         taken =
             λ z. record {
+              room = rw e at (b .room);
               of = y .links;
               are = rw e at (b .links);
               held = l;

@@ -2,8 +2,10 @@
 -- Each is what the engine's own contract says, with the links as a room of numbers. Assumes nothing.
 use mathlib.Core.Path.{_≡_}
 use mathlib.Core.Logic.{_≢_}
-use mathlib.Core.List.{List}
+use mathlib.Core.List.{List, [], _∷_}
 use Prim.Native.Nat.{ℕ}
+use lib.ListN.{length}
+use Rattle.plan.specs.Limits.{mostRecords}
 use Rattle.plan.specs.APlan.{recordsOf}
 use Rattle.plan.specs.ReplyNumbers.{readOf}
 use Rattle.plan.specs.declared.Refusal.{Refusal}
@@ -17,6 +19,7 @@ use Rattle.hulls.specs.Rooms.{linksIn, linksRoom, replyRoom}
 
 -- the rooms of the plan of an accepted file s at the fresh board
 pub record FilledFrom (s links rows into out ends kept : List ℕ) : Type 0 where
+  pub room : length (readOf s .plan .records) ≡ mostRecords
   pub of : Links
   pub are : LinksOf (recordsOf (readOf s .plan)) of
   pub held : links ≡ linksRoom of
@@ -39,3 +42,16 @@ pub record RepliesFrom (links rows out kept : List ℕ) (room : List ℕ) : Type
   pub reply : Reply
   pub replies : RepliesWith (linksIn links) rows out kept reply
   pub holds : room ≡ replyRoom reply
+
+-- ---- a day
+
+-- some events are taken one after the other, from what the room `kept` holds to what it holds then, and give these answers
+pub data TakenAll (links rows into out ends : List ℕ) : List ℕ → List (List ℕ) → List ℕ → List ℕ → Type 0 where
+  none : {kept : List ℕ} → TakenAll links rows into out ends kept [] [] kept
+  next : {kept kept′ kept″ s : List ℕ} {ss : List (List ℕ)} {r : ℕ} {rs : List ℕ} → TakesFrom links rows into out ends kept s r kept′
+      → TakenAll links rows into out ends kept′ ss rs kept″ → TakenAll links rows into out ends kept (s ∷ ss) (r ∷ rs) kept″
+
+-- numbers and records as answers
+unfoldable pub answersIn : List Refusal → List ℕ
+answersIn [] = []
+answersIn (x ∷ xs) = answerOf (x .number) (x .place) ∷ answersIn xs

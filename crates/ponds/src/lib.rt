@@ -5,3 +5,17 @@ mod days;
 mod files;
 mod made;
 mod sheets;
+
+pub use days::ponds_begin;
+pub use days::ponds_board;
+pub use days::ponds_reply;
+pub use days::ponds_take;
+pub use files::ponds_check;
+pub use files::ponds_day;
+pub use files::ponds_test;
+pub use files::ponds_worst;
+pub use made::ponds_close;
+pub use made::ponds_import;
+pub use made::ponds_lighter;
+pub use sheets::ponds_calendar;
+pub use sheets::ponds_verdict;

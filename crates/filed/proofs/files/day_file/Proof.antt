@@ -12,7 +12,13 @@ read-requires : tie.Need-read-requires
 read-requires c κs = search needs
 
 returns : tie.Need-returns
-returns c = let e = c .before .before .read .ensures in (of-refused _ (λ (p : Plan). dayOf p _ _) (λ (number place : ℕ). day number place 0) _ e (c .if1 .taken), of-refused _ (λ (p : Plan). dayWritten p _ _) (λ (number place : ℕ). _) _ e (c .if1 .taken))
+returns c =
+    let a = c .before .before .before .before .before .args in
+    let e = c .before .before .read .ensures in
+    let h = c .if1 .taken in (
+      of-refused (a .file .now) (λ (p : Plan). dayOf p (a .projection) (a .out .now)) (λ (number place : ℕ). day number place 0) _ e h,
+      of-refused (a .file .now) (λ (p : Plan). dayWritten p (a .projection) (a .out .now)) (λ (number place : ℕ). a .out .now) _ e h,
+    )
 
 day-of-requires : tie.Need-day-of-requires
 day-of-requires c κs = search needs
@@ -21,7 +27,14 @@ same-length : tie.Need-same-length
 same-length c = search needs
 
 returns-2 : tie.Need-returns-2
-returns-2 c = let e = c .before .before .before .before .before .before .read .ensures in (c .before .before .day-of .ensures .0 ∙ of-read _ (λ (p : Plan). dayOf p _ _) (λ (number place : ℕ). day number place 0) _ e (c .before .before .before .before .if1 .left), c .before .before .day-of .ensures .1 ∙ of-read _ (λ (p : Plan). dayWritten p _ _) (λ (number place : ℕ). _) _ e (c .before .before .before .before .if1 .left))
+returns-2 c =
+    let a = c .before .before .before .before .before .before .before .before .before .args in
+    let e = c .before .before .before .before .before .before .read .ensures in
+    let h = c .before .before .before .before .if1 .left in
+    let d = c .before .before .day-of .ensures in (
+      d .0 ∙ of-read (a .file .now) (λ (p : Plan). dayOf p (a .projection) (a .out .now)) (λ (number place : ℕ). day number place 0) _ e h,
+      d .1 ∙ of-read (a .file .now) (λ (p : Plan). dayWritten p (a .projection) (a .out .now)) (λ (number place : ℕ). a .out .now) _ e h,
+    )
 
 pub day-file-spec : {M : Type 1} → statement M
 day-file-spec = tie.close (tie.spec read-requires returns day-of-requires same-length returns-2)

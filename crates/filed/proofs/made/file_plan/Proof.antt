@@ -6,7 +6,9 @@ use Rattle.filed.proofs.made.file_plan.Statement.{statement}
 use Rattle.filed.proofs.made.file_plan.Tie as tie
 
 returns : tie.Need-returns
-returns c = (unfiled _ _ (c .if1 .taken), unfiled-left _ _ (c .if1 .taken))
+returns c =
+    let a = c .before .before .before .args in
+    (unfiled (a .made) (a .out .now) (c .if1 .taken), unfiled-left (a .made) (a .out .now) (c .if1 .taken))
 
 write-requires : tie.Need-write-requires
 write-requires c κs = search needs
@@ -15,7 +17,10 @@ same-length : tie.Need-same-length
 same-length c = search needs
 
 returns-2 : tie.Need-returns-2
-returns-2 c = (c .before .before .write .ensures .0 ∙ filed _ _ (c .before .before .before .before .if1 .left), c .before .before .write .ensures .1 ∙ filed-left _ _ (c .before .before .before .before .if1 .left))
+returns-2 c =
+    let a = c .before .before .before .before .before .before .before .args in
+    let h = c .before .before .before .before .if1 .left in
+    (c .before .before .write .ensures .0 ∙ filed (a .made) (a .out .now) h, c .before .before .write .ensures .1 ∙ filed-left (a .made) (a .out .now) h)
 
 pub file-plan-spec : {M : Type 1} → statement M
 file-plan-spec = tie.close (tie.spec returns write-requires same-length returns-2)

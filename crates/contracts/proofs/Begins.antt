@@ -26,7 +26,7 @@ use Rattle.rooms.specs.declared.Started.{Started}
 
 -- ---- the links
 
-one-links : (rs : List Record) (l l′ : Links) → LinksOf rs l → LinksOf rs l′ → l ≡ l′
+pub one-links : (rs : List Record) (l l′ : Links) → LinksOf rs l → LinksOf rs l′ → l ≡ l′
 one-links rs l l′ x y =
     let n = x .points ∙ sym (y .points) in
     let w = same-members (l .watched) (l′ .watched) (x .fits) (y .fits) (λ p h. x .watches p h ∙ sym (y .watches p h)) in
@@ -85,7 +85,7 @@ module _ (rs : List Record) (rows into out ends kept rows′ into′ out′ ends
           rw e at (six rows rows′ (p / width) (rowOf rs (getD rs (p / width) blank)) (x .listed .laid .rows (p / width) b) (y .listed .laid .rows (p / width) b) (p % width) (omega arith))
       go p (no a) = x .listed .laid .rest p (omega arith) ∙ sym (y .listed .laid .rest p (omega arith))
 
-  filled-same : SameRooms rows into out ends kept rows′ into′ out′ ends′ kept′
+  pub filled-same : SameRooms rows into out ends kept rows′ into′ out′ ends′ kept′
   filled-same =
       let e = one-sheet in
       record {

@@ -1,4 +1,5 @@
 -- Each contract permits a single reply.
 mod Rooms
 mod Begins
+mod Ponds
 pub mod SingleReply

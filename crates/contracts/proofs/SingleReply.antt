@@ -1,11 +1,12 @@
 -- What each open function ensures permits a single reply for each argument, lent rooms included, and none asks anything. A contract
 -- that is an equation does so by one law; that of the plan test does by `one-answer`, that of the lighter plan by `one-lighter`, and those of the
--- engine as `Rooms` and `Begins` say. Assumes nothing.
+-- engine as `Rooms` and `Begins` say; for those over lent rooms of `ponds` see `Ponds`. Assumes nothing.
 use mathlib.Core.Path.{_≡_, sym, _∙_}
 use Rattle.vee.proofs.Single.{one-answer}
 use Rattle.lighter.proofs.Theorems.{one-lighter}
 use Rattle.contracts.specs.Contracts.{SingleReplies}
 use Rattle.contracts.proofs.Begins.{one-started, same-rooms}
+use Rattle.contracts.proofs.Ponds.{one-lightened, begun-same, one-take, one-said}
 use Rattle.contracts.proofs.Rooms.{one-board, one-reply, one-taken, one-room}
 
 -- an equation permits one
@@ -80,4 +81,35 @@ single-replies =
       point-line = (λ κ a. tt, λ κ a r r′ o o′ x y. same x y);
       tail-line = (λ κ a. tt, λ κ a r r′ o o′ x y. same x y);
       end-line = (λ κ a. tt, λ κ a r r′ o o′ x y. same x y);
+      ponds-check = (λ κ a. tt, λ κ a r r′ o o′ x y. same x y);
+      ponds-test = (λ κ a. tt, λ κ a r r′ o o′ x y. same (x .0) (y .0));
+      ponds-test-leaves = λ κ a r r′ o o′ x y. same (x .1) (y .1);
+      ponds-worst = (λ κ a. tt, λ κ a r r′ o o′ x y. same (x .0) (y .0));
+      ponds-worst-leaves = λ κ a r r′ o o′ x y. same (x .1) (y .1);
+      ponds-day = (λ κ a. tt, λ κ a r r′ o o′ x y. same (x .0) (y .0));
+      ponds-day-leaves = λ κ a r r′ o o′ x y. same (x .1) (y .1);
+      ponds-import = (λ κ a. tt, λ κ a r r′ o o′ x y. same (x .0) (y .0));
+      ponds-import-leaves = λ κ a r r′ o o′ x y. same (x .1) (y .1);
+      ponds-close = (λ κ a. tt, λ κ a r r′ o o′ x y. same (x .0) (y .0));
+      ponds-close-leaves = λ κ a r r′ o o′ x y. same (x .1) (y .1);
+      ponds-lighter = (λ κ a. tt, λ κ a r r′ o o′ x y. one-lightened _ _ _ x y .0);
+      ponds-lighter-leaves = λ κ a r r′ o o′ x y. one-lightened _ _ _ x y .1;
+      ponds-lighter-leaves-numbers = λ κ a r r′ o o′ x y. one-lightened _ _ _ x y .2;
+      ponds-verdict = (λ κ a. tt, λ κ a r r′ o o′ x y. same (x .0) (y .0));
+      ponds-verdict-leaves = λ κ a r r′ o o′ x y. same (x .1) (y .1);
+      ponds-calendar = (λ κ a. tt, λ κ a r r′ o o′ x y. same (x .0) (y .0));
+      ponds-calendar-leaves = λ κ a r r′ o o′ x y. same (x .1) (y .1);
+      ponds-begin = (λ κ a. tt, λ κ a r r′ o o′ x y. same (x .answer) (y .answer));
+      ponds-begin-leaves-links = λ κ a r r′ o o′ x y. begun-same _ _ _ _ _ _ _ _ _ _ _ _ _ _ _ _ _ _ _ r r′ x y .0;
+      ponds-begin-leaves-rows = λ κ a r r′ o o′ x y. begun-same _ _ _ _ _ _ _ _ _ _ _ _ _ _ _ _ _ _ _ r r′ x y .1 .rows-same;
+      ponds-begin-leaves-into = λ κ a r r′ o o′ x y. begun-same _ _ _ _ _ _ _ _ _ _ _ _ _ _ _ _ _ _ _ r r′ x y .1 .into-same;
+      ponds-begin-leaves-out = λ κ a r r′ o o′ x y. begun-same _ _ _ _ _ _ _ _ _ _ _ _ _ _ _ _ _ _ _ r r′ x y .1 .out-same;
+      ponds-begin-leaves-ends = λ κ a r r′ o o′ x y. begun-same _ _ _ _ _ _ _ _ _ _ _ _ _ _ _ _ _ _ _ r r′ x y .1 .ends-same;
+      ponds-begin-leaves-kept = λ κ a r r′ o o′ x y. begun-same _ _ _ _ _ _ _ _ _ _ _ _ _ _ _ _ _ _ _ r r′ x y .1 .kept-same;
+      ponds-take = (λ κ a. tt, λ κ a r r′ o o′ x y. one-take _ _ _ _ _ _ _ r r′ _ _ x y .0);
+      ponds-take-leaves = λ κ a r r′ o o′ x y. one-take _ _ _ _ _ _ _ r r′ _ _ x y .1;
+      ponds-reply = (λ κ a. tt, λ κ a r r′ o o′ x y. same (x .0) (y .0));
+      ponds-reply-leaves = λ κ a r r′ o o′ x y. one-said _ _ _ _ _ _ (x .1) (y .1);
+      ponds-board = (λ κ a. tt, λ κ a r r′ o o′ x y. same (x .0) (y .0));
+      ponds-board-leaves = λ κ a r r′ o o′ x y. same (x .1) (y .1);
     }

@@ -57,6 +57,19 @@ use Rattle.text.proofs.board_line.Reads as board-line-code
 use Rattle.text.proofs.point_line.Reads as point-line-code
 use Rattle.text.proofs.tail_line.Reads as tail-line-code
 use Rattle.text.proofs.end_line.Reads as end-line-code
+use Rattle.ponds.proofs.ponds_check.Reads as ponds-check-code
+use Rattle.ponds.proofs.ponds_test.Reads as ponds-test-code
+use Rattle.ponds.proofs.ponds_worst.Reads as ponds-worst-code
+use Rattle.ponds.proofs.ponds_day.Reads as ponds-day-code
+use Rattle.ponds.proofs.ponds_import.Reads as ponds-import-code
+use Rattle.ponds.proofs.ponds_close.Reads as ponds-close-code
+use Rattle.ponds.proofs.ponds_lighter.Reads as ponds-lighter-code
+use Rattle.ponds.proofs.ponds_verdict.Reads as ponds-verdict-code
+use Rattle.ponds.proofs.ponds_calendar.Reads as ponds-calendar-code
+use Rattle.ponds.proofs.ponds_begin.Reads as ponds-begin-code
+use Rattle.ponds.proofs.ponds_take.Reads as ponds-take-code
+use Rattle.ponds.proofs.ponds_reply.Reads as ponds-reply-code
+use Rattle.ponds.proofs.ponds_board.Reads as ponds-board-code
 use Rattle.plan.specs.declared.Plan.{Plan}
 use Rattle.bounds.specs.declared.Bound.{Bound}
 use Rattle.board.specs.declared.Board.{Board}
@@ -165,3 +178,35 @@ pub record SingleReplies : Type 0 where
   pub point-line : Single point-line-code.Pre point-line-code.Post
   pub tail-line : Single tail-line-code.Pre tail-line-code.Post
   pub end-line : Single end-line-code.Pre end-line-code.Post
+  -- ponds: for programs in C and in Rust
+  pub ponds-check : Single ponds-check-code.Pre ponds-check-code.Post
+  pub ponds-test : Single ponds-test-code.Pre ponds-test-code.Post
+  pub ponds-test-leaves : Leaves ponds-test-code.Post (λ o. o .1 .0 .now)
+  pub ponds-worst : Single ponds-worst-code.Pre ponds-worst-code.Post
+  pub ponds-worst-leaves : Leaves ponds-worst-code.Post (λ o. o .1 .0 .now)
+  pub ponds-day : Single ponds-day-code.Pre ponds-day-code.Post
+  pub ponds-day-leaves : Leaves ponds-day-code.Post (λ o. o .1 .1 .0 .now)
+  pub ponds-import : Single ponds-import-code.Pre ponds-import-code.Post
+  pub ponds-import-leaves : Leaves ponds-import-code.Post (λ o. o .1 .0 .now)
+  pub ponds-close : Single ponds-close-code.Pre ponds-close-code.Post
+  pub ponds-close-leaves : Leaves ponds-close-code.Post (λ o. o .1 .0 .now)
+  pub ponds-lighter : Single ponds-lighter-code.Pre ponds-lighter-code.Post
+  pub ponds-lighter-leaves : Leaves ponds-lighter-code.Post (λ o. o .1 .0 .now)
+  pub ponds-lighter-leaves-numbers : Leaves ponds-lighter-code.Post (λ o. o .1 .1 .0 .now)
+  pub ponds-verdict : Single ponds-verdict-code.Pre ponds-verdict-code.Post
+  pub ponds-verdict-leaves : Leaves ponds-verdict-code.Post (λ o. o .1 .1 .0 .now)
+  pub ponds-calendar : Single ponds-calendar-code.Pre ponds-calendar-code.Post
+  pub ponds-calendar-leaves : Leaves ponds-calendar-code.Post (λ o. o .1 .1 .1 .1 .1 .1 .1 .0 .now)
+  pub ponds-begin : Single ponds-begin-code.Pre ponds-begin-code.Post
+  pub ponds-begin-leaves-links : Leaves ponds-begin-code.Post (λ o. o .1 .0 .now)
+  pub ponds-begin-leaves-rows : Leaves ponds-begin-code.Post (λ o. o .1 .1 .0 .now)
+  pub ponds-begin-leaves-into : Leaves ponds-begin-code.Post (λ o. o .1 .1 .1 .0 .now)
+  pub ponds-begin-leaves-out : Leaves ponds-begin-code.Post (λ o. o .1 .1 .1 .1 .0 .now)
+  pub ponds-begin-leaves-ends : Leaves ponds-begin-code.Post (λ o. o .1 .1 .1 .1 .1 .0 .now)
+  pub ponds-begin-leaves-kept : Leaves ponds-begin-code.Post (λ o. o .1 .1 .1 .1 .1 .1 .0 .now)
+  pub ponds-take : Single ponds-take-code.Pre ponds-take-code.Post
+  pub ponds-take-leaves : Leaves ponds-take-code.Post (λ o. o .1 .1 .1 .1 .1 .0 .now)
+  pub ponds-reply : Single ponds-reply-code.Pre ponds-reply-code.Post
+  pub ponds-reply-leaves : Leaves ponds-reply-code.Post (λ o. o .1 .1 .1 .1 .0 .now)
+  pub ponds-board : Single ponds-board-code.Pre ponds-board-code.Post
+  pub ponds-board-leaves : Leaves ponds-board-code.Post (λ o. o .1 .0 .now)

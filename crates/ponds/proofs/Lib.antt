@@ -1,0 +1,3 @@
+-- What the engine answers over lent rooms, and that it is the plain engine's.
+mod OfRooms
+pub mod Agreeing

@@ -1,17 +1,17 @@
 -- What is known of a word's bytes tells which verb it is, and which number. Assumes nothing.
-use mathlib.Core.Path.{_≡_, refl, sym, ap, _∙_}
+use mathlib.Core.Path.{_≡_, refl, ap}
 use mathlib.Core.Bool.{Bool, true, false, _&&_, not}
-use mathlib.Core.List.{List, [], _∷_, _++_}
-use Prim.Native.Nat.{ℕ, _+_, _*_, _-_, _%_, _^_, _≤_, _<_, min}
+use mathlib.Core.List.{List}
+use Prim.Native.Nat.{ℕ, _-_, _%_, _^_, _≤_, min}
 use native.Mathlib.Omega.{arith}
 use native.Mathlib.Decide.{decLt}
 use mathlib.Core.Logic.{by-cases}
 use lib.Dec.{eqb, ltb}
 use lib.ListN.{length}
-use borrow.Author.Tests.{lt-ltb, le-ltb, eq-eqb, ne-eqb, eqb-true, ltb-true}
+use borrow.Author.Tests.{le-ltb, ne-eqb, ltb-true}
 use Rattle.numbers.specs.Choice.{if_then_else_}
 use Rattle.numbers.specs.Fits.{All, IsByte}
-use Rattle.values.specs.Values.{same, isEmpty, isDigit, isMinus, allDigits, valueFrom, isNegative, unsigned, sizeOf}
+use Rattle.values.specs.Values.{same, isEmpty, allDigits, valueFrom, unsigned, sizeOf}
 use Rattle.values.specs.Inside.{fresh, withAll}
 use Rattle.values.specs.declared.Seen.{Seen}
 use Rattle.values.proofs.Tests.{both}
@@ -20,7 +20,6 @@ use Rattle.values.proofs.Tells.{Tells, tells-all}
 use Rattle.values.proofs.Digits.{digits-unsigned, no-minus}
 use Rattle.asks.specs.Asks.{testVerb, worstVerb, dayVerb, importVerb, closeVerb, lighterVerb, packVerb, listVerb, calendarVerb, isCount, alone, counted, dated, numberOf, askedOf}
 use Rattle.asks.specs.Inside.{isVerb, countIn, typingIn, aloneIn, countedIn, datedIn, numberIn}
-use Rattle.asks.specs.declared.Asked.{Asked}
 use Rattle.asks.specs.declared.Asked.the-variants.{Test, Worst, Day, Import, Close, Lighter, Pack, Listing, Calendar, Nothing}
 use Rattle.asks.specs.declared.Number.{Number}
 

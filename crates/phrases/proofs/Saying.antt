@@ -6,14 +6,14 @@ use Prim.Native.Nat.{ℕ, zero, suc, _+_, _%_, _^_, _≤_, _<_, min}
 use native.Mathlib.Omega.{arith}
 use lib.Dec.{eqb, ltb}
 use lib.ListN.{length}
-use borrow.Author.Tests.{eq-eqb, ne-eqb, eqb-true, lt-ltb, le-ltb, ltb-true, ltb-false}
+use borrow.Author.Tests.{ne-eqb, lt-ltb, le-ltb, ltb-true, ltb-false}
 use Rattle.numbers.specs.Choice.{if_then_else_}
 use Rattle.numbers.specs.Fits.{All, IsByte}
 use Rattle.points.specs.Sets.{member, withOf}
 use Rattle.values.specs.Ascii.{ascii}
 use Rattle.values.specs.Values as values
-use Rattle.values.specs.Values.{same, isEmpty, isDigit, isMinus, allDigits, valueFrom, isNegative, unsigned, sizeOf}
-use Rattle.values.specs.Inside.{fresh, with, withAll, wordIn, kindIn}
+use Rattle.values.specs.Values.{same, isEmpty, allDigits, unsigned}
+use Rattle.values.specs.Inside.{fresh, with, withAll, wordIn}
 use Rattle.values.specs.declared.Seen.{Seen}
 use Rattle.values.proofs.Tests.{both}
 use Rattle.values.proofs.Words.{base, same-word}
@@ -21,7 +21,7 @@ use Rattle.values.proofs.Tells.{Tells, tells-all}
 use Rattle.values.proofs.Digits.{digits-unsigned, no-minus}
 use Rattle.values.proofs.Says.{says-kind}
 use Rattle.phrases.specs.Phrases.{isComma, inFirst, cut, kindOf, isBelow, valueOf, isNone, arePoints, setFrom, isSet, setOf, isPointOrNone, pointOrNone}
-use Rattle.phrases.specs.Inside.{belowIn, freshWord, ended, pointed, withByte, withBytes, kindBy, noneIn, setIn, setBy, pointOrNoneIn, pointOrNoneBy}
+use Rattle.phrases.specs.Inside.{belowIn, freshWord, ended, withByte, withBytes, kindBy, noneIn, setIn, setBy, pointOrNoneIn, pointOrNoneBy}
 use Rattle.phrases.specs.declared.Word.{Word}
 use Rattle.phrases.proofs.Reading.{onto, onto-bare}
 

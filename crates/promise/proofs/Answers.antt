@@ -18,7 +18,6 @@ use Rattle.board.specs.Stuck.{finished, stuck}
 use Rattle.board.specs.declared.Board.{Board}
 use Rattle.replies.specs.Replies.{outcomeOf, stateOf, shut, bare, offer, replyFor, replyOf}
 use Rattle.replies.specs.Numbers.{outcomeValues, stateValues}
-use Rattle.replies.specs.declared.State.{State}
 use Rattle.replies.specs.declared.Place.{Place}
 use Rattle.replies.specs.declared.Outcome.{Outcome}
 use Rattle.replies.specs.declared.Outcome.the-variants.{Refused, Finished, Stuck, Waiting, Offers}

@@ -1,7 +1,7 @@
 -- Demand 3 in the answers that people are given: the reply that the foreman reads, and document 01's number and values of the reply, the verdict and
 -- the plan test. Each statement is a type, and `Answers` in proofs/ proves it. Definitions only. Assumes nothing.
 use mathlib.Core.Path.{_≡_}
-use mathlib.Core.List.{List, [], _∷_}
+use mathlib.Core.List.{[], _∷_}
 use Prim.Native.Nat.{ℕ, _≤_, _<_}
 use lib.ListN.{getD}
 use Rattle.plan.specs.Limits.{mostPoints}

@@ -1,55 +1,27 @@
 -- What is known of a word's bytes tells which verb it is, and which number. Assumes nothing.
-use mathlib.Core.Path.{_≡_, refl, sym, ap, _∙_}
+use mathlib.Core.Path.{_≡_, refl, ap}
 use mathlib.Core.Bool.{Bool, true, false, _&&_, not}
-use mathlib.Core.List.{List, [], _∷_, _++_}
-use Prim.Native.Nat.{ℕ, _+_, _*_, _-_, _%_, _^_, _≤_, _<_, min}
+use mathlib.Core.List.{List}
+use Prim.Native.Nat.{ℕ, _-_, _%_, _^_, _≤_, min}
 use native.Mathlib.Omega.{arith}
 use native.Mathlib.Decide.{decLt}
 use mathlib.Core.Logic.{by-cases}
 use lib.Dec.{eqb, ltb}
 use lib.ListN.{length}
-use borrow.Author.Tests.{lt-ltb, le-ltb, eq-eqb, ne-eqb, eqb-true, ltb-true}
+use borrow.Author.Tests.{le-ltb, ne-eqb, ltb-true}
 use Rattle.numbers.specs.Choice.{if_then_else_}
 use Rattle.numbers.specs.Fits.{All, IsByte}
-use Rattle.values.specs.Values.{same, isEmpty, isDigit, isMinus, allDigits, valueFrom, isNegative, unsigned, sizeOf}
+use Rattle.values.specs.Values.{same, isEmpty, allDigits, valueFrom, unsigned, sizeOf}
 use Rattle.values.specs.Inside.{fresh, withAll}
 use Rattle.values.specs.declared.Seen.{Seen}
 use Rattle.values.proofs.Tests.{both}
 use Rattle.values.proofs.Words.{base, same-word}
 use Rattle.values.proofs.Tells.{Tells, tells-all}
+use Rattle.values.proofs.Digits.{digits-unsigned, no-minus}
 use Rattle.asks.specs.Asks.{testVerb, worstVerb, dayVerb, importVerb, closeVerb, lighterVerb, packVerb, listVerb, calendarVerb, isCount, alone, counted, dated, numberOf, askedOf}
 use Rattle.asks.specs.Inside.{isVerb, countIn, typingIn, aloneIn, countedIn, datedIn, numberIn}
-use Rattle.asks.specs.declared.Asked.{Asked}
 use Rattle.asks.specs.declared.Asked.the-variants.{Test, Worst, Day, Import, Close, Lighter, Pack, Listing, Calendar, Nothing}
 use Rattle.asks.specs.declared.Number.{Number}
-
--- a word that begins with a minus is not all digits
-no-minus : (g : List ℕ) → (allDigits (unsigned g) && not (isNegative g)) ≡ allDigits g
-unfolding allDigits unsigned isNegative
-no-minus [] = refl
-no-minus (c ∷ g) = go (isMinus c) refl
-  where
-    none : (t : Bool) → (t && false) ≡ false
-    none true = refl
-    none false = refl
-
-    whole : (t : Bool) → (t && true) ≡ t
-    whole true = refl
-    whole false = refl
-
-    go : (m : Bool) → isMinus c ≡ m → (allDigits (if m then g else c ∷ g) && not m) ≡ (isDigit c && allDigits g)
-    go true e = rw (eqb-true c 45 e) (none (allDigits g))
-    go false e = whole (isDigit c && allDigits g)
-
--- such a word has no minus to leave out
-plain : (g : List ℕ) → allDigits g ≡ true → unsigned g ≡ g
-unfolding allDigits unsigned
-plain [] e = refl
-plain (c ∷ g) e = go (isMinus c) refl
-  where
-    go : (m : Bool) → isMinus c ≡ m → (if m then g else c ∷ g) ≡ c ∷ g
-    go true q = absurd (let z : false ≡ true = rw (eqb-true c 45 q) at e in let y : _≡_ {A = ℕ} 0 1 = cc in omega arith)
-    go false q = refl
 
 module _ (f : List ℕ) (a : All IsByte f) where
   abbrev known : Seen
@@ -73,7 +45,7 @@ module _ (f : List ℕ) (a : All IsByte f) where
 
   -- where a word is all digits, it is its own size
   size : allDigits f ≡ true → sizeOf f ≡ valueFrom 0 f
-  size e = ap (valueFrom 0) (plain f e)
+  size e = ap (valueFrom 0) (digits-unsigned f e .0)
 
   -- the number that a word is
   number : (t : Bool) → allDigits f ≡ t → (t && ltb (known .size) 4294967296) ≡ (t && ltb (valueFrom 0 f) (2 ^ 32))

@@ -5,7 +5,7 @@ use mathlib.Core.Bool.{Bool, true, false, not}
 use mathlib.Core.List.{List, [], _∷_}
 use Prim.Native.Nat.{ℕ, suc, _+_, _≤_, _<_}
 use native.Mathlib.Numerals.{add-one}
-use lib.Dec.{T, eqb, ltb→lt, nltb→le}
+use lib.Dec.{T, eqb, ltb, ltb→lt, nltb→le}
 use lib.IntN.{pos}
 use lib.ListN.{length, drop, getD, drop-of-length-le}
 use lib.Seq.{drop-cons}
@@ -88,3 +88,7 @@ pub going : (a : Judged) (i n : ℕ) → T (goesOn a i n) → i < n
 going (Refused k j) i n h = absurd h
 going Kept i n h = ltb→lt i n h
 going (Broken j) i n h = ltb→lt i n h
+
+-- where nothing is refused, every bound of the list is still to be looked at
+pub kept-goes : (a : Judged) (i n : ℕ) → a ≡ Kept → ltb i n ≡ goesOn a i n
+kept-goes a i n e = rw e

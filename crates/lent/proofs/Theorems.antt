@@ -6,6 +6,8 @@ use mathlib.Core.Bool.{Bool, true, false, true≢false}
 use mathlib.Core.List.{List, [], _∷_}
 use Prim.Native.Nat.{ℕ, zero, suc, _+_, _<_}
 use native.Mathlib.Omega.{arith}
+use native.Mathlib.Decide.{decLt}
+use lib.Dec.{eqb}
 use lib.ListN.{length, getD, take}
 use borrow.Author.Tests.{eqb-true, ne-eqb, lt-ltb}
 use Rattle.plan.specs.Choice.{if_then_else_}
@@ -14,12 +16,12 @@ use Rattle.plan.specs.declared.Plan.{Plan}
 use Rattle.records.specs.declared.Record.{Record}
 use Rattle.plan.proofs.Accepted.{Accepted, accepted-plan}
 use Rattle.bounds.specs.declared.Bound.{Bound}
-use Rattle.verdict.specs.Verdicts.{ordinaryKept, waitKept, firstBroken, endedOf, verdictOf}
+use Rattle.verdict.specs.Verdicts.{ordinaryKept, waitKept, kept, firstBroken, endedOf, verdictOf}
 use Rattle.board.specs.declared.Board.{Board}
 use Rattle.verdict.specs.declared.Verdict.{Verdict}
 use Rattle.verdict.specs.declared.Verdict.the-variants as verdict
 use Rattle.verdict.proofs.Broken.{ended-accepted}
-use Rattle.lent.specs.Judgement.{namedIn, keptOn, firstNot, judgeOf, numberIn, ordinaries}
+use Rattle.lent.specs.Judgement.{namedIn, keptOn, firstNot, judgeOf, numberIn, placeIn, ordinaries}
 use Rattle.lent.specs.declared.Judged.{Judged}
 use Rattle.lent.specs.declared.Judged.the-variants.{Refused, Kept, Broken}
 use Rattle.lent.proofs.Going.{none}
@@ -83,6 +85,22 @@ module _ (p : Plan) (b : Board) (ok : endedOf p b .number ≡ 0) where
     pub kept-all : All named xs → All (keptOn b) xs → judgeOf p b xs ≡ Kept
     unfolding judgeOf
     kept-all a k = rw ok (all-so named (Refused 8) _ 0 xs a ∙ all-so (keptOn b) Broken Kept 0 xs k)
+
+    -- The same in this paper's numbers: 8 and the first such bound's place; else 0 and that of the first broken one; else 0.
+    pub eight-numbered : (j : ℕ) → First named xs j → (numberIn (judgeOf p b xs) ≡ 8) × (placeIn (judgeOf p b xs) ≡ j)
+    eight-numbered j f = let e = eight-first j f in (ap numberIn e, ap placeIn e)
+
+    pub broken-numbered : All named xs → (j : ℕ) → First (keptOn b) xs j → (numberIn (judgeOf p b xs) ≡ 0) × (placeIn (judgeOf p b xs) ≡ j)
+    broken-numbered a j f = let e = broken-first a j f in (ap numberIn e, ap placeIn e)
+
+    pub kept-numbered : All named xs → All (keptOn b) xs → (numberIn (judgeOf p b xs) ≡ 0) × (placeIn (judgeOf p b xs) ≡ 0)
+    kept-numbered a k = let e = kept-all a k in (ap numberIn e, ap placeIn e)
+
+-- What is refused before the list keeps its number and its record.
+pub refused-numbered : (p : Plan) (b : Board) (xs : List Bound) → eqb (endedOf p b .number) 0 ≡ false
+    → (numberIn (judgeOf p b xs) ≡ endedOf p b .number) × (placeIn (judgeOf p b xs) ≡ endedOf p b .place)
+unfolding judgeOf
+refused-numbered p b xs n = (rw n, rw n)
 
 -- ---- the plan's own ordinary records
 
@@ -165,6 +183,24 @@ kept-means b i (x ∷ xs) e = go (keptOn b x) refl (kept-means b (suc i) xs) e
     go true f next e = record { all = more f (next e) }
     go false f next e = absurd (true≢false (ap isKept (sym e)))
 
+-- the place of a broken record
+abbrev brokenAt : Verdict → ℕ
+brokenAt (verdict.Refused n i) = 0
+brokenAt verdict.Kept = 0
+brokenAt (verdict.Broken k) = suc k
+
+-- Every record before the first broken one is kept.
+kept-before : (rs : List Record) (b : Board) (k i : ℕ) (xs : List Record) → firstBroken rs b i xs ≡ verdict.Broken k → (j : ℕ) → j < length xs → i + j < k → kept rs b (getD xs j blank) ≡ true
+unfolding firstBroken
+kept-before rs b k i [] e j l h = absurd (omega (arith, l))
+kept-before rs b k i (x ∷ xs) e j l h = go j l h (kept rs b x) refl e (λ f. kept-before rs b k (suc i) xs f)
+  where
+    go : (j : ℕ) → j < length (x ∷ xs) → i + j < k → (t : Bool) → kept rs b x ≡ t → (if t then firstBroken rs b (suc i) xs else verdict.Broken i) ≡ verdict.Broken k
+        → (firstBroken rs b (suc i) xs ≡ verdict.Broken k → (m : ℕ) → m < length xs → suc i + m < k → kept rs b (getD xs m blank) ≡ true) → kept rs b (getD (x ∷ xs) j blank) ≡ true
+    go zero l h true f e on = f
+    go (suc j) l h true f e on = on e j (omega (arith, l)) (omega (arith, h))
+    go j l h false f e on = absurd (omega (arith, h, ap brokenAt e))
+
 module _ (p : Plan) (b : Board) (ok : endedOf p b .number ≡ 0) where
   known : Accepted (recordsOf p)
   known = accepted-plan p (ended-accepted p b ok)
@@ -190,6 +226,20 @@ module _ (p : Plan) (b : Board) (ok : endedOf p b .number ≡ 0) where
 
   pub own-kept : EveryKept → judgeOf p b (ordinaries (recordsOf p)) ≡ Kept
   own-kept h = kept-all p b ok (ordinaries (recordsOf p)) own-named (ordinaries-so (keptOn b) (recordsOf p) h)
+
+  -- Where the plan's verdict names a wait, the list's is kept: every ordinary record comes before every wait.
+  pub own-wait : (k : ℕ) → verdictOf p b ≡ verdict.Broken k → k < length (recordsOf p) → is wait (getD (recordsOf p) k blank) ≡ true
+      → judgeOf p b (ordinaries (recordsOf p)) ≡ Kept
+  unfolding verdictOf
+  own-wait k e h w = own-kept (λ j l o. go j l o (decLt j k))
+    where
+      broken : firstBroken (recordsOf p) b 0 (recordsOf p) ≡ verdict.Broken k
+      broken = rw ok at e
+
+      go : (j : ℕ) → j < length (recordsOf p) → is ordinary (getD (recordsOf p) j blank) ≡ true → Dec (j < k) → ordinaryKept b (getD (recordsOf p) j blank) ≡ true
+      go j l o (yes before) = rw o at (kept-before (recordsOf p) b k 0 (recordsOf p) broken j l (omega (arith, before)))
+      go j l o (no after) =
+          absurd (omega (arith, known .sorted k j (omega (arith, after)) l, eqb-true (getD (recordsOf p) k blank .kind) 4 w, eqb-true (getD (recordsOf p) j blank .kind) 3 o))
 
   pub kept-own : judgeOf p b (ordinaries (recordsOf p)) ≡ Kept → EveryKept
   kept-own e = so-ordinaries (keptOn b) (recordsOf p) (kept-means b 0 (ordinaries (recordsOf p)) (sym own-answer ∙ e))

@@ -6,51 +6,24 @@ use Prim.Native.Nat.{ℕ, zero, suc, _+_, _%_, _^_, _≤_, _<_, min}
 use native.Mathlib.Omega.{arith}
 use lib.Dec.{eqb, ltb}
 use lib.ListN.{length}
-use borrow.Author.Tests.{eq-eqb, ne-eqb, eqb-true, lt-ltb, le-ltb, ltb-true, ltb-false}
+use borrow.Author.Tests.{ne-eqb, lt-ltb, le-ltb, ltb-true, ltb-false}
 use Rattle.numbers.specs.Choice.{if_then_else_}
 use Rattle.numbers.specs.Fits.{All, IsByte}
 use Rattle.points.specs.Sets.{member, withOf}
 use Rattle.values.specs.Ascii.{ascii}
 use Rattle.values.specs.Values as values
-use Rattle.values.specs.Values.{same, isEmpty, isDigit, isMinus, allDigits, valueFrom, isNegative, unsigned, sizeOf}
-use Rattle.values.specs.Inside.{fresh, with, withAll, wordIn, kindIn}
+use Rattle.values.specs.Values.{same, isEmpty, allDigits, unsigned}
+use Rattle.values.specs.Inside.{fresh, with, withAll, wordIn}
 use Rattle.values.specs.declared.Seen.{Seen}
 use Rattle.values.proofs.Tests.{both}
 use Rattle.values.proofs.Words.{base, same-word}
 use Rattle.values.proofs.Tells.{Tells, tells-all}
+use Rattle.values.proofs.Digits.{digits-unsigned, no-minus}
 use Rattle.values.proofs.Says.{says-kind}
 use Rattle.phrases.specs.Phrases.{isComma, inFirst, cut, kindOf, isBelow, valueOf, isNone, arePoints, setFrom, isSet, setOf, isPointOrNone, pointOrNone}
-use Rattle.phrases.specs.Inside.{belowIn, freshWord, ended, pointed, withByte, withBytes, kindBy, noneIn, setIn, setBy, pointOrNoneIn, pointOrNoneBy}
+use Rattle.phrases.specs.Inside.{belowIn, freshWord, ended, withByte, withBytes, kindBy, noneIn, setIn, setBy, pointOrNoneIn, pointOrNoneBy}
 use Rattle.phrases.specs.declared.Word.{Word}
 use Rattle.phrases.proofs.Reading.{onto, onto-bare}
-
--- a word is all digits where it is without a minus and the rest is
-no-minus : (g : List ℕ) → (allDigits (unsigned g) && not (isNegative g)) ≡ allDigits g
-unfolding allDigits unsigned isNegative
-no-minus [] = refl
-no-minus (c ∷ g) = go (isMinus c) refl
-  where
-    off : (t : Bool) → (t && false) ≡ false
-    off true = refl
-    off false = refl
-
-    whole : (t : Bool) → (t && true) ≡ t
-    whole true = refl
-    whole false = refl
-
-    go : (m : Bool) → isMinus c ≡ m → (allDigits (if m then g else c ∷ g) && not m) ≡ (isDigit c && allDigits g)
-    go true e = rw (eqb-true c 45 e) (off (allDigits g))
-    go false e = whole (isDigit c && allDigits g)
-
--- such a word has no minus to leave out
-plain : (g : List ℕ) → allDigits g ≡ true → unsigned g ≡ g
-unfolding allDigits unsigned
-plain [] e = refl
-plain (c ∷ g) e = go (isMinus c) refl
-  where
-    go : (m : Bool) → isMinus c ≡ m → (if m then g else c ∷ g) ≡ c ∷ g
-    go true q = absurd (let z : false ≡ true = rw (eqb-true c 45 q) at e in let y : _≡_ {A = ℕ} 0 1 = cc in omega arith)
-    go false q = refl
 
 module _ (f : List ℕ) (a : All IsByte f) where
   abbrev known : Seen
@@ -71,7 +44,7 @@ module _ (f : List ℕ) (a : All IsByte f) where
 
   -- where a word is all digits, it is its own size
   size : allDigits f ≡ true → min (known .size) (2 ^ 32) ≡ min (valueOf f) (2 ^ 32)
-  size e = rw (plain f e) at (tells .size)
+  size e = rw (digits-unsigned f e .0) at (tells .size)
 
   below-by : (n : ℕ) → n ≤ 2 ^ 32 → (t : Bool) → allDigits f ≡ t → (t && ltb (known .size) n) ≡ (t && ltb (valueOf f) n)
   below-by n h false e = refl

@@ -51,6 +51,8 @@ pub record Accepted (rs : List Record) : Type 0 where
   pub each : (i : ℕ) → i < length rs → Rules rs (getD rs i blank)
   -- no two ordinary records have the same two points, in the same order
   pub no-twins : (i j : ℕ) → i < length rs → j < length rs → Twins (getD rs i blank) (getD rs j blank) → i ≡ j
+  -- kinds never fall
+  pub sorted : (i j : ℕ) → i ≤ j → j < length rs → getD rs i blank .kind ≤ getD rs j blank .kind
   -- a watched point has its link among the records
   pub ends : (c : ℕ) → watched rs c ≡ true → (is link (linkTo rs c) ≡ true) × (linkTo rs c .b ≡ c) × ((i : ℕ) × (i < length rs) × (getD rs i blank ≡ linkTo rs c))
 
@@ -112,7 +114,8 @@ record Kept (rs : List Record) : Type 0 where
   few : points rs ≤ mostPoints
   each : (i : ℕ) → i < length rs → Rules rs (getD rs i blank)
   twins : (i j : ℕ) → i < length rs → j < length rs → Twins (getD rs i blank) (getD rs j blank) → i ≡ j
-  -- kinds never fall
+  -- kinds never fall, and the last is the highest
+  sorted : (i j : ℕ) → i ≤ j → j < length rs → getD rs i blank .kind ≤ getD rs j blank .kind
   order : (i : ℕ) → i < length rs → getD rs i blank .kind ≤ lastKind 0 rs
 
 module _ (rs : List Record) (r : Record) (ok : numberOf (after rs) r 0 ≡ 0) where
@@ -244,12 +247,20 @@ module _ (rs : List Record) (r : Record) (ok : numberOf (after rs) r 0 ≡ 0) wh
         absurd (no-twin j m (turned (rw (List·getD-append rs (r ∷ []) blank j m, e, getD-append-seam rs r [] blank) at t)))
     twins-more i j h k t (no l) (no m) = omega (arith, length-append rs (r ∷ []))
 
+    sorted-more : (i j : ℕ) → i ≤ j → j < length more → Dec (j < length rs) → getD more i blank .kind ≤ getD more j blank .kind
+    sorted-more i j o h (yes l) =
+        rw (List·getD-append rs (r ∷ []) blank i (omega arith), List·getD-append rs (r ∷ []) blank j l) (w .sorted i j o l)
+    sorted-more i j o h (no l) =
+        let e : j ≡ length rs = omega (arith, length-append rs (r ∷ [])) in
+        rw (e, getD-append-seam rs r [] blank) (each-more i (omega arith) (decLt i (length rs)) .1)
+
     kept-more : Kept more
     kept-more =
         record {
           few = rw points-more (few-more (w .few) (is point r) refl);
           each = λ i h. each-more i h (decLt i (length rs)) .0;
           twins = λ i j h k t. twins-more i j h k t (decLt i (length rs)) (decLt j (length rs));
+          sorted = λ i j o h. sorted-more i j o h (decLt j (length rs));
           order = λ i h. rw (last-snoc 0 rs r) (each-more i h (decLt i (length rs)) .1);
         }
 
@@ -257,7 +268,7 @@ module _ (rs : List Record) (r : Record) (ok : numberOf (after rs) r 0 ≡ 0) wh
 
 kept-none : Kept []
 unfolding howMany
-kept-none = record { few = omega arith; each = λ i h. absurd (omega arith); twins = λ i j h k t. absurd (omega arith); order = λ i h. absurd (omega arith) }
+kept-none = record { few = omega arith; each = λ i h. absurd (omega arith); twins = λ i j h k t. absurd (omega arith); sorted = λ i j o h. absurd (omega arith); order = λ i h. absurd (omega arith) }
 
 kept-all : (rs xs : List Record) → Kept rs → firstBad rs (map plain xs) .number ≡ 0 → Kept (rs ++ xs)
 unfolding firstBadWith
@@ -281,6 +292,7 @@ accepted-plan p e =
       few = w .few;
       each = w .each;
       no-twins = w .twins;
+      sorted = w .sorted;
       ends = λ c h.
           let f = first-found (endsAt c) (recordsOf p) h in
           let g = both (is link (linkTo (recordsOf p) c)) _ (f .0) in

@@ -24,6 +24,7 @@ pub mod LetThrough
 pub mod Keeping
 pub mod TestYes
 pub mod DemandThree
+pub mod Answers
 pub mod Haul
 pub mod Ends
 pub mod Untied

@@ -5,6 +5,7 @@ pub mod Nets
 pub mod Runs
 pub mod Plays
 pub mod DemandThree
+pub mod Answers
 pub mod GoodSheets
 pub mod Chains
 pub mod Calls

@@ -55,7 +55,7 @@ unfolding from
 from-long zero p = refl
 from-long (suc n) p = ap suc (from-long n (suc p))
 
-map-at : (f : ℕ → Place) (n p i : ℕ) → i < n → getD (map f (from p n)) i shut ≡ f (p + i)
+pub map-at : (f : ℕ → Place) (n p i : ℕ) → i < n → getD (map f (from p n)) i shut ≡ f (p + i)
 unfolding from
 map-at f zero p i h = absurd (omega arith)
 map-at f (suc n) p zero h = let e : p + 0 ≡ p = omega arith in rw e

@@ -1,13 +1,14 @@
 -- What digits say as a number, alone and behind a minus. Assumes nothing.
 use mathlib.Core.Path.{_≡_, refl}
-use mathlib.Core.Bool.{Bool, true, false}
+use mathlib.Core.Bool.{Bool, true, false, _&&_, not}
 use mathlib.Core.List.{List, [], _∷_}
 use Prim.Native.Nat.{ℕ, suc, _+_, _%_, _^_, _<_}
 use native.Mathlib.Omega.{arith}
 use lib.Dec.{leb}
 use lib.IntN.{pos, negsuc}
 use lib.ListN.{length}
-use borrow.Author.Tests.{ne-eqb, lt-ltb, le-leb, leb-true}
+use borrow.Author.Tests.{ne-eqb, eqb-true, lt-ltb, le-leb, leb-true}
+use Rattle.numbers.specs.Choice.{if_then_else_}
 use Rattle.values.specs.Values.{isEmpty, isDigit, isMinus, allDigits, valueFrom, isNegative, unsigned, isNumber, numberOf}
 use Rattle.values.proofs.Tests.{both}
 
@@ -22,6 +23,24 @@ digits-unsigned (c ∷ f) e =
     let d = both (leb 48 c) (leb c 57) (both (isDigit c) (allDigits f) e .0) in
     let m : isMinus c ≡ false = ne-eqb c 45 (λ q. let l = leb-true 48 c (d .0) in omega arith) in
     (rw m, m)
+
+-- a word that begins with a minus is not all digits
+pub no-minus : (g : List ℕ) → (allDigits (unsigned g) && not (isNegative g)) ≡ allDigits g
+unfolding allDigits unsigned isNegative
+no-minus [] = refl
+no-minus (c ∷ g) = go (isMinus c) refl
+  where
+    none : (t : Bool) → (t && false) ≡ false
+    none true = refl
+    none false = refl
+
+    whole : (t : Bool) → (t && true) ≡ t
+    whole true = refl
+    whole false = refl
+
+    go : (m : Bool) → isMinus c ≡ m → (allDigits (if m then g else c ∷ g) && not m) ≡ (isDigit c && allDigits g)
+    go true e = rw (eqb-true c 45 e) (none (allDigits g))
+    go false e = whole (isDigit c && allDigits g)
 
 module _ (f : List ℕ) (d : allDigits f ≡ true) (some : isEmpty f ≡ false) where
   -- digits are the number of their value

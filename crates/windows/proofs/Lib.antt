@@ -3,3 +3,4 @@ mod Removing
 pub mod Opening
 mod Above
 mod Numbering
+mod Pointing

@@ -1,5 +1,6 @@
 -- `lent::goes_on` meets its contract. Assumes nothing.
 use borrow.Author.Needs.{needs}
+use Rattle.lent.proofs.Going.{kept-goes}
 use Rattle.lent.proofs.goes_on.Statement.{statement}
 use Rattle.lent.proofs.goes_on.Tie as tie
 
@@ -16,7 +17,7 @@ returns : tie.Need-returns
 returns c = rw (c .enum-told .given .1)
 
 returns-2 : tie.Need-returns-2
-returns-2 c = rw (c .enum-told2 .given .1)
+returns-2 c = kept-goes _ _ _ (c .enum-told2 .given .1)
 
 returns-3 : tie.Need-returns-3
 returns-3 c = rw (c .enum-told3 .given .1)

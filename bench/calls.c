@@ -22,7 +22,7 @@ static const u8 *events;
 
 // Ours: the rooms that the caller lends.
 static u32 our_links[PONDS_LINKS], our_kept[PONDS_KEPT], our_reply[PONDS_REPLY], our_verdict[2];
-static u64 our_rows[PONDS_ROWS];
+static u32 our_rows[PONDS_ROWS];
 static u16 our_into[PONDS_LIST], our_out[PONDS_LIST], our_ends[PONDS_LIST];
 static u32 before_kept[PONDS_KEPT];
 static u32 told[PONDS_BOARD];

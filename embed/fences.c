@@ -55,7 +55,7 @@ static void seal(struct room *room, int sealed) {
 
 enum { LINKS, ROWS, INTO, OUT, ENDS, KEPT, REPLY, BOARD, ANSWER, VERDICT, WORST, DROPPED, BYTES, ROOMS };
 
-static const size_t sizes[ROOMS] = {4 * PONDS_LINKS,  8 * PONDS_ROWS,    2 * PONDS_LIST,  2 * PONDS_LIST, 2 * PONDS_LIST,
+static const size_t sizes[ROOMS] = {4 * PONDS_LINKS,  4 * PONDS_ROWS,    2 * PONDS_LIST,  2 * PONDS_LIST, 2 * PONDS_LIST,
                                     4 * PONDS_KEPT,   4 * PONDS_REPLY,   4 * PONDS_BOARD, 4 * PONDS_ANSWER, 4 * PONDS_VERDICT,
                                     4 * PONDS_WORST,  4 * PONDS_MOST_RECORDS, PONDS_MOST_FILE};
 static struct room rooms[ROOMS];
@@ -64,7 +64,6 @@ static size_t room_length; /* how much of the room BYTES is lent */
 
 static uint32_t *u32(int k) { return (uint32_t *)(void *)rooms[k].at; }
 static uint16_t *u16(int k) { return (uint16_t *)(void *)rooms[k].at; }
-static uint64_t *u64(int k) { return (uint64_t *)(void *)rooms[k].at; }
 /* The last bytes of the room BYTES, so that what is lent ends where memory does. */
 static uint8_t *bytes(void) { return rooms[BYTES].at + rooms[BYTES].size - room_length; }
 
@@ -76,12 +75,12 @@ static uint64_t closed(void) { return ponds_close(file.at, file.size, bytes(), r
 static uint64_t lighter(void) { return ponds_lighter(file.at, file.size, bytes(), room_length, u32(DROPPED)); }
 static uint64_t import(void) { return ponds_import(text.at, text.size, bytes(), room_length); }
 static uint64_t begin(void) {
-  return ponds_begin(file.at, file.size, u32(LINKS), u64(ROWS), u16(INTO), u16(OUT), u16(ENDS), u32(KEPT));
+  return ponds_begin(file.at, file.size, u32(LINKS), u32(ROWS), u16(INTO), u16(OUT), u16(ENDS), u32(KEPT));
 }
 static uint64_t take(void) {
-  return ponds_take(u32(LINKS), u64(ROWS), u16(INTO), u16(OUT), u16(ENDS), u32(KEPT), event.at, event.size);
+  return ponds_take(u32(LINKS), u32(ROWS), u16(INTO), u16(OUT), u16(ENDS), u32(KEPT), event.at, event.size);
 }
-static uint64_t reply(void) { return ponds_reply(u32(LINKS), u64(ROWS), u16(OUT), u32(KEPT), u32(REPLY)); }
+static uint64_t reply(void) { return ponds_reply(u32(LINKS), u32(ROWS), u16(OUT), u32(KEPT), u32(REPLY)); }
 static uint64_t board(void) { return ponds_board(u32(KEPT), u32(BOARD)); }
 static uint64_t verdict(void) { return ponds_verdict(file.at, file.size, u32(KEPT), u32(VERDICT)); }
 static uint64_t calendar(void) { return ponds_calendar(file.at, file.size, u32(KEPT), 2096, 2, 29, 23, 59, bytes(), room_length); }
@@ -135,7 +134,7 @@ static void refuses(const struct call *what, uint32_t number) {
 /* A call that has to be answered with 0, from rooms that hold this and from rooms that hold that; what it fills has to be the
    same then, to the last byte. The room BYTES is looked at by itself: only its front is written. */
 static uint64_t fills(const struct call *what) {
-  static uint8_t before[8 * PONDS_ROWS];
+  static uint8_t before[4 * PONDS_ROWS];
   unsigned set = what->writes & ~ROOM(BYTES);
   uint64_t answer = 0;
   int k;

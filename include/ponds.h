@@ -104,13 +104,13 @@ uint64_t ponds_import(const uint8_t *text, size_t length, uint8_t *out, size_t r
 /* ---- a day: its rooms are filled by ponds_begin, and then only `kept` changes, by ponds_take */
 
 /* Begins the day of a plan: fills all rooms for the fresh board. The plan's own number, or 0. The file is not looked at again. */
-uint64_t ponds_begin(const uint8_t *file, size_t length, uint32_t links[PONDS_LINKS], uint64_t rows[PONDS_ROWS],
+uint64_t ponds_begin(const uint8_t *file, size_t length, uint32_t links[PONDS_LINKS], uint32_t rows[PONDS_ROWS],
                      uint16_t into[PONDS_LIST], uint16_t out[PONDS_LIST], uint16_t ends[PONDS_LIST],
                      uint32_t kept[PONDS_KEPT]) PONDS_LENT;
 
 /* Takes an event, which has 16 bytes (of any other length it is refused): 21 to 30, with the record beside 28 where it names one,
    else 0 there; or 0, and then `kept` is that of the board after the event. */
-uint64_t ponds_take(const uint32_t links[PONDS_LINKS], const uint64_t rows[PONDS_ROWS], const uint16_t into[PONDS_LIST],
+uint64_t ponds_take(const uint32_t links[PONDS_LINKS], const uint32_t rows[PONDS_ROWS], const uint16_t into[PONDS_LIST],
                     const uint16_t out[PONDS_LIST], const uint16_t ends[PONDS_LIST], uint32_t kept[PONDS_KEPT],
                     const uint8_t *event, size_t length) PONDS_LENT;
 
@@ -119,7 +119,7 @@ uint64_t ponds_take(const uint32_t links[PONDS_LINKS], const uint64_t rows[PONDS
    PONDS_DONE, at that minute; PONDS_WATCHED, 0; PONDS_SHUT, the first record that keeps it so (0: none, as past the last point);
    PONDS_HELD, 0; PONDS_OFFERED, from that minute on.
    The reply to a finished board has no list: every place is PONDS_SHUT, 0. ponds_board has its minutes. Always answers 0. */
-uint64_t ponds_reply(const uint32_t links[PONDS_LINKS], const uint64_t rows[PONDS_ROWS], const uint16_t out[PONDS_LIST],
+uint64_t ponds_reply(const uint32_t links[PONDS_LINKS], const uint32_t rows[PONDS_ROWS], const uint16_t out[PONDS_LIST],
                      const uint32_t kept[PONDS_KEPT], uint32_t reply[PONDS_REPLY]) PONDS_LENT;
 
 /* The board: board[0] the clock, board[1] the set of done points (point i is bit i), board[2 + p] the minute of point p, and
@@ -163,9 +163,9 @@ static inline void ponds_event(uint8_t event[PONDS_RECORD_BYTES], uint32_t minut
   }
 }
 
-/* All rooms of a day. It is large (some 62 KB): let it be static, or allocate it. */
+/* All rooms of a day. It is large (some 35 KB): let it be static, or allocate it. */
 struct ponds_day_rooms {
-  uint64_t rows[PONDS_ROWS];
+  uint32_t rows[PONDS_ROWS];
   uint32_t links[PONDS_LINKS];
   uint32_t kept[PONDS_KEPT];
   uint16_t into[PONDS_LIST];

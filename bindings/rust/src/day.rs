@@ -3,10 +3,10 @@
 use crate::{sys, Plan, Refusal};
 use crate::{BOARD, BROKEN, KEPT, LINKS, LIST, MOST_POINTS, RECORD_BYTES, REPLY, ROWS};
 
-/// The rooms of a day, some 62 KB. Let them be static, or put them into a box.
+/// The rooms of a day, some 35 KB. Let them be static, or put them into a box.
 #[derive(Clone)]
 pub struct Rooms {
-    rows: [u64; ROWS],
+    rows: [u32; ROWS],
     links: [u32; LINKS],
     kept: [u32; KEPT],
     into: [u16; LIST],

@@ -27,7 +27,7 @@ extern "C" {
         file: *const u8,
         length: usize,
         links: *mut [u32; LINKS],
-        rows: *mut [u64; ROWS],
+        rows: *mut [u32; ROWS],
         into: *mut [u16; LIST],
         out: *mut [u16; LIST],
         ends: *mut [u16; LIST],
@@ -35,7 +35,7 @@ extern "C" {
     ) -> u64;
     pub fn ponds_take(
         links: *const [u32; LINKS],
-        rows: *const [u64; ROWS],
+        rows: *const [u32; ROWS],
         into: *const [u16; LIST],
         out: *const [u16; LIST],
         ends: *const [u16; LIST],
@@ -45,7 +45,7 @@ extern "C" {
     ) -> u64;
     pub fn ponds_reply(
         links: *const [u32; LINKS],
-        rows: *const [u64; ROWS],
+        rows: *const [u32; ROWS],
         out: *const [u16; LIST],
         kept: *const [u32; KEPT],
         reply: *mut [u32; REPLY],

@@ -21,7 +21,7 @@ fn lasting(least: u64, most: u64, digit: u64) -> u64
 // The durations of projection `number` of the `many` that the links of the `links` rows before row `past` have: the number's
 // digits, the first link's first, say how far each duration is past its least.
 pub fn chosen(
-    sheet: &[u64; SHEET],
+    sheet: &[u32; SHEET],
     past: usize,
     links: usize,
     many: u32,

@@ -75,7 +75,7 @@ pub fn close(plan: Plan) -> Reading
     if has_steps(plan) {
         return refuse(HAS_STEPS, 0);
     }
-    let mut sheet = [0u64; SHEET];
+    let mut sheet = [0u32; SHEET];
     lay_out(plan, &mut sheet);
     let n = points_of(plan) as usize;
     let durations = [0u64; SIDE];

@@ -29,7 +29,7 @@ use tables::SIDE;
 // Whether one projection is good and reaches from `x` to `y` in `most`.
 fn fits(
     durations: &[u64; SIDE],
-    sheet: &[u64; SHEET],
+    sheet: &[u32; SHEET],
     m: usize,
     n: usize,
     all: &mut [u32; ROOM],
@@ -56,7 +56,7 @@ fn fits(
 
 // Whether each projection is, in order up to the first that is not, in the same two tables.
 fn all_fit(
-    sheet: &[u64; SHEET],
+    sheet: &[u32; SHEET],
     m: usize,
     n: usize,
     links: usize,
@@ -96,7 +96,7 @@ pub fn is_spare(r: Record, plan: Plan, many: u32) -> bool
     if r.kind != ORDINARY {
         return false;
     }
-    let mut sheet = [0u64; SHEET];
+    let mut sheet = [0u32; SHEET];
     lay_out(plan, &mut sheet);
     let n = points_of(plan) as usize;
     let links = links_of(plan) as usize;

@@ -63,7 +63,7 @@ pub fn board_of(kept: &[u32; KEPT]) -> Board
 // The number of an event, and the record beside it, which is looked for only where the number is 28.
 fn number_of(
     links: Links,
-    rows: &[u64; SHEET],
+    rows: &[u32; SHEET],
     out: &[u16; LIST],
     kept: &[u32; KEPT],
     event: &[u8],
@@ -88,7 +88,7 @@ fn number_of(
 // Takes an event: number 0, and its points are done; or a number with the record beside it, and every number of the room is as it was.
 pub fn take(
     links: Links,
-    rows: &[u64; SHEET],
+    rows: &[u32; SHEET],
     into: &[u16; LIST],
     out: &[u16; LIST],
     ends: &[u16; LIST],
@@ -106,7 +106,7 @@ pub fn take(
 }
 
 // The reply.
-pub fn reply(links: Links, rows: &[u64; SHEET], out: &[u16; LIST], kept: &[u32; KEPT]) -> Reply
+pub fn reply(links: Links, rows: &[u32; SHEET], out: &[u16; LIST], kept: &[u32; KEPT]) -> Reply
     ensures { λ r. ⌜ RepliesWith links (now (rows .entry)) (now (out .entry)) (now (kept .entry)) r ⌝ }
 {
     let board = board_of(kept);

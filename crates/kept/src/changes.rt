@@ -54,7 +54,7 @@ fn free(row: Row, kept: &mut [u32; KEPT], t: u32)
 }
 
 // Every record that z sets free.
-fn free_all(rows: &[u64; SHEET], into: &[u16; LIST], kept: &mut [u32; KEPT], z: usize, t: u32)
+fn free_all(rows: &[u32; SHEET], into: &[u16; LIST], kept: &mut [u32; KEPT], z: usize, t: u32)
     ensures { λ _. ⌜ now (kept .exit) ≡ over (freedAt (now (rows .entry)) t) (now (kept .entry)) (entriesOf (now (into .entry)) z) ⌝ }
 {
     let mut i = start(into, z);
@@ -76,7 +76,7 @@ fn bound(row: Row, kept: &mut [u32; KEPT], t: u32)
 }
 
 // Every record that bounds another point from z.
-fn bound_all(rows: &[u64; SHEET], out: &[u16; LIST], kept: &mut [u32; KEPT], z: usize, t: u32)
+fn bound_all(rows: &[u32; SHEET], out: &[u16; LIST], kept: &mut [u32; KEPT], z: usize, t: u32)
     ensures { λ _. ⌜ now (kept .exit) ≡ over (boundedAt (now (rows .entry)) t) (now (kept .entry)) (entriesOf (now (out .entry)) z) ⌝ }
 {
     let mut i = start(out, z);
@@ -90,7 +90,7 @@ fn bound_all(rows: &[u64; SHEET], out: &[u16; LIST], kept: &mut [u32; KEPT], z: 
 
 // The point z is done at the minute t by the event of number n: what that changes.
 fn mark(
-    rows: &[u64; SHEET],
+    rows: &[u32; SHEET],
     into: &[u16; LIST],
     out: &[u16; LIST],
     kept: &mut [u32; KEPT],
@@ -122,7 +122,7 @@ fn run_now(row: Row, kept: &[u32; KEPT]) -> u32
 }
 
 // The running waits of a point.
-fn running_of(rows: &[u64; SHEET], out: &[u16; LIST], kept: &[u32; KEPT], v: usize) -> u32
+fn running_of(rows: &[u32; SHEET], out: &[u16; LIST], kept: &[u32; KEPT], v: usize) -> u32
     ensures { λ r. ⌜ r ≡ topAt (runningAt (now (rows .entry)) (now (kept .entry))) (entriesOf (now (out .entry)) v) ⌝ }
 {
     let mut top: u32 = 0;
@@ -137,7 +137,7 @@ fn running_of(rows: &[u64; SHEET], out: &[u16; LIST], kept: &[u32; KEPT], v: usi
 }
 
 // The running waits of the point that the record i holds, made anew.
-fn remake(rows: &[u64; SHEET], out: &[u16; LIST], kept: &mut [u32; KEPT], i: usize)
+fn remake(rows: &[u32; SHEET], out: &[u16; LIST], kept: &mut [u32; KEPT], i: usize)
     requires { ⌜ i < mostRecords ⌝ }
     ensures { λ _. ⌜ now (kept .exit) ≡ remadeAt (now (rows .entry)) (now (out .entry)) (now (kept .entry)) i ⌝ }
 {
@@ -149,7 +149,7 @@ fn remake(rows: &[u64; SHEET], out: &[u16; LIST], kept: &mut [u32; KEPT], i: usi
 
 // A link ends at z: the running waits of each point with a wait on it.
 fn remake_all(
-    rows: &[u64; SHEET],
+    rows: &[u32; SHEET],
     out: &[u16; LIST],
     ends: &[u16; LIST],
     kept: &mut [u32; KEPT],
@@ -168,7 +168,7 @@ fn remake_all(
 
 // The point z is done at the minute t by the event of number n, and where it ends a link, its waits no longer run.
 fn do_point(
-    rows: &[u64; SHEET],
+    rows: &[u32; SHEET],
     into: &[u16; LIST],
     out: &[u16; LIST],
     ends: &[u16; LIST],
@@ -186,7 +186,7 @@ fn do_point(
 
 // The points of a set are done at the minute t by the event of number n.
 fn do_set(
-    rows: &[u64; SHEET],
+    rows: &[u32; SHEET],
     into: &[u16; LIST],
     out: &[u16; LIST],
     ends: &[u16; LIST],
@@ -207,7 +207,7 @@ fn do_set(
 
 // A foreman's point, if the event has one.
 fn do_one(
-    rows: &[u64; SHEET],
+    rows: &[u32; SHEET],
     into: &[u16; LIST],
     out: &[u16; LIST],
     ends: &[u16; LIST],
@@ -225,7 +225,7 @@ fn do_one(
 
 // All points of an event, which becomes the last.
 pub fn do_event(
-    rows: &[u64; SHEET],
+    rows: &[u32; SHEET],
     into: &[u16; LIST],
     out: &[u16; LIST],
     ends: &[u16; LIST],

@@ -77,7 +77,7 @@ fn still_holds(row: Row, done: u32) -> bool
 }
 
 // The first record in file order that holds a point shut, 0 for none.
-fn first_holder(rows: &[u64; SHEET], out: &[u16; LIST], done: u32, v: u8) -> u32
+fn first_holder(rows: &[u32; SHEET], out: &[u16; LIST], done: u32, v: u8) -> u32
     ensures { λ r. ⌜ r ≡ firstAt (shutAt (now (rows .entry)) done) (entriesOf (now (out .entry)) v) ⌝ }
 {
     let mut i = start(out, v as usize);
@@ -93,7 +93,7 @@ fn first_holder(rows: &[u64; SHEET], out: &[u16; LIST], done: u32, v: u8) -> u32
 }
 
 // The same, where nothing is read for a point that nothing holds.
-fn holder_at(rows: &[u64; SHEET], out: &[u16; LIST], kept: &[u32; KEPT], p: u8) -> u32
+fn holder_at(rows: &[u32; SHEET], out: &[u16; LIST], kept: &[u32; KEPT], p: u8) -> u32
     requires { ⌜ p < mostPoints ⌝ }
     ensures { λ r. ⌜ r ≡ holderAt (now (rows .entry)) (now (out .entry)) (now (kept .entry)) p ⌝ }
 {
@@ -127,7 +127,7 @@ pub fn bare_windows(kept: &[u32; KEPT], points: u32, watched: u32) -> Windows
 }
 
 // The first record that holds each point.
-fn holders_of(rows: &[u64; SHEET], out: &[u16; LIST], kept: &[u32; KEPT]) -> [u32; SIDE]
+fn holders_of(rows: &[u32; SHEET], out: &[u16; LIST], kept: &[u32; KEPT]) -> [u32; SIDE]
     ensures { λ t. ⌜ HoldersOf (now (rows .entry)) (now (out .entry)) (now (kept .entry)) t ⌝ }
 {
     let mut holders: [u32; SIDE] = [0; SIDE];
@@ -154,7 +154,7 @@ fn with_holders(w: Windows, holders: [u32; SIDE]) -> Windows
 
 // The windows, with the record that holds each point.
 pub fn windows_of(
-    rows: &[u64; SHEET],
+    rows: &[u32; SHEET],
     out: &[u16; LIST],
     kept: &[u32; KEPT],
     points: u32,
@@ -168,7 +168,7 @@ pub fn windows_of(
 
 // Windows with the record that holds p in every place: of one event only its point's is read, so no other is looked for.
 pub fn named_at(
-    rows: &[u64; SHEET],
+    rows: &[u32; SHEET],
     out: &[u16; LIST],
     kept: &[u32; KEPT],
     w: Windows,

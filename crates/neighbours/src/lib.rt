@@ -12,6 +12,7 @@ use plan::MOST_POINTS;
 use plan::MOST_RECORDS;
 use rows::SHEET;
 use rows::index;
+use rows::word;
 
 // A place for each point.
 pub const SIDE: usize = MOST_POINTS as usize;
@@ -50,12 +51,12 @@ fn key(least: u64, kind: u64, point: u64) -> usize
     pick(kind < least, SIDE, index(point % MANY))
 }
 
-fn key_at(rows: &[u64; SHEET], least: u64, field: usize, i: usize) -> usize
+fn key_at(rows: &[u32; SHEET], least: u64, field: usize, i: usize) -> usize
     requires { ⌜ (field < width) × (i < mostRecords) ⌝ }
     ensures { λ r. ⌜ (r ≡ keyAt (now (rows .entry)) least field i) × (r < buckets) ⌝ }
 {
     let at = i * WIDTH;
-    key(least, rows[at], rows[at + field])
+    key(least, word(rows[at]), word(rows[at + field]))
 }
 
 fn clear(list: &mut [u16; LIST])
@@ -66,7 +67,7 @@ fn clear(list: &mut [u16; LIST])
 
 // The lists of the first `count` rows of the kinds from `least` on, by the point in a field: each record is put in front of its
 // list, from the last to the first.
-pub fn build(rows: &[u64; SHEET], least: u64, field: usize, count: usize, list: &mut [u16; LIST])
+pub fn build(rows: &[u32; SHEET], least: u64, field: usize, count: usize, list: &mut [u16; LIST])
     requires { ⌜ (field < width) × (count ≤ mostRecords) ⌝ }
     ensures { λ _. ⌜ Indexed (keyAt (now (rows .entry)) least field) count (now (list .exit)) ⌝ }
 {

@@ -72,7 +72,7 @@ fn named(state: State) -> u32
 }
 
 // One point in the list of a reply.
-pub fn line_at(rows: &[u64; SHEET], ponds: [u32; ROOM], reply: Reply, i: u32) -> Line
+pub fn line_at(rows: &[u32; SHEET], ponds: [u32; ROOM], reply: Reply, i: u32) -> Line
     requires { ⌜ i < mostPoints ⌝ }
     ensures { λ l. ⌜ l ≡ lineAt (now (rows .entry)) ponds reply i ⌝ }
 {

@@ -41,7 +41,7 @@ fn reason_of(row: Row) -> Record
 }
 
 // The record of row n; a number past all rows reads the last.
-pub(crate) fn reason_at(rows: &[u64; SHEET], n: u32) -> Record
+pub(crate) fn reason_at(rows: &[u32; SHEET], n: u32) -> Record
     ensures { λ r. ⌜ r ≡ reasonAt (now (rows .entry)) n ⌝ }
 {
     let q = fewer(n as usize, MOST_RECORDS - 1);

@@ -25,7 +25,7 @@ use rows::SHEET;
 pub extern "C" fn ponds_begin(
     file: &[u8],
     links: &mut [u32; LINKS],
-    rows: &mut [u64; SHEET],
+    rows: &mut [u32; SHEET],
     into: &mut [u16; LIST],
     out: &mut [u16; LIST],
     ends: &mut [u16; LIST],
@@ -47,7 +47,7 @@ pub extern "C" fn ponds_begin(
 #[no_mangle]
 pub extern "C" fn ponds_take(
     links: &[u32; LINKS],
-    rows: &[u64; SHEET],
+    rows: &[u32; SHEET],
     into: &[u16; LIST],
     out: &[u16; LIST],
     ends: &[u16; LIST],
@@ -64,7 +64,7 @@ pub extern "C" fn ponds_take(
 #[no_mangle]
 pub extern "C" fn ponds_reply(
     links: &[u32; LINKS],
-    rows: &[u64; SHEET],
+    rows: &[u32; SHEET],
     out: &[u16; LIST],
     kept: &[u32; KEPT],
     room: &mut [u32; REPLY],

@@ -55,7 +55,7 @@ struct Told {
 // An event: one line, or, in full, its reply number and the record beside it, and what the board is then.
 fn event(
     told: Told,
-    rows: &[u64; SHEET],
+    rows: &[u32; SHEET],
     into: &[u16; LIST],
     from: &[u16; LIST],
     ends: &[u16; LIST],
@@ -85,7 +85,7 @@ fn whole(playing: bool, at: usize) -> usize
 // The whole records of the chunk that are not answered yet.
 fn events(
     told: Told,
-    rows: &[u64; SHEET],
+    rows: &[u32; SHEET],
     into: &[u16; LIST],
     from: &[u16; LIST],
     ends: &[u16; LIST],
@@ -137,7 +137,7 @@ fn read_more(more: bool, chunk: &mut [u8], at: usize) -> usize
 // What has come is answered and the lines are written; then one read.
 fn turn(
     told: Told,
-    rows: &[u64; SHEET],
+    rows: &[u32; SHEET],
     into: &[u16; LIST],
     from: &[u16; LIST],
     ends: &[u16; LIST],
@@ -176,7 +176,7 @@ fn turn(
 // All events, to the end of the input.
 fn play_on(
     told: Told,
-    rows: &[u64; SHEET],
+    rows: &[u32; SHEET],
     into: &[u16; LIST],
     from: &[u16; LIST],
     ends: &[u16; LIST],
@@ -202,7 +202,7 @@ fn play_on(
 // In full, what the board is before all events.
 fn opened(
     told: Told,
-    rows: &[u64; SHEET],
+    rows: &[u32; SHEET],
     from: &[u16; LIST],
     kept: &[u32; KEPT],
     first: Went,
@@ -238,7 +238,7 @@ pub(crate) fn play(
 ) -> Played
     requires { ⌜ first .at ≤ length (now chunk) ⌝ }
 {
-    let mut rows = [0u64; SHEET];
+    let mut rows = [0u32; SHEET];
     let mut into = [0u16; LIST];
     let mut from = [0u16; LIST];
     let mut ends = [0u16; LIST];

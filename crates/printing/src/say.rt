@@ -19,7 +19,7 @@ use stream::TAIL;
 
 // The list of a reply: a line for each of so many points.
 fn list(
-    rows: &[u64; SHEET],
+    rows: &[u32; SHEET],
     ponds: [u32; ROOM],
     reply: Reply,
     points: u32,
@@ -41,7 +41,7 @@ fn list(
 pub(crate) fn shown(
     links: Links,
     ponds: [u32; ROOM],
-    rows: &[u64; SHEET],
+    rows: &[u32; SHEET],
     from: &[u16; LIST],
     kept: &[u32; KEPT],
     lines: &mut [u8],

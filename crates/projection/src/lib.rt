@@ -28,7 +28,7 @@ pub enum Finding {
 fn judge_ways(
     all: &[u32; ROOM],
     durations: &[u64; SIDE],
-    sheet: &[u64; SHEET],
+    sheet: &[u32; SHEET],
     m: usize,
     n: usize,
     ways: &mut [u32; ROOM],
@@ -50,7 +50,7 @@ fn judge_ways(
 pub fn judge_by(
     all: &[u32; ROOM],
     durations: &[u64; SIDE],
-    sheet: &[u64; SHEET],
+    sheet: &[u32; SHEET],
     m: usize,
     n: usize,
     ways: &mut [u32; ROOM],
@@ -67,7 +67,7 @@ pub fn judge_by(
 // What is found of the projection of a sheet's records that has these durations.
 pub fn judge(
     durations: &[u64; SIDE],
-    sheet: &[u64; SHEET],
+    sheet: &[u32; SHEET],
     m: usize,
     n: usize,
     all: &mut [u32; ROOM],

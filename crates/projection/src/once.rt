@@ -46,7 +46,7 @@ fn fall_by(all: &[u32; ROOM], t: &mut [u32; ROOM], n: usize, x: usize, z: usize,
 fn ease_by(
     all: &[u32; ROOM],
     t: &mut [u32; ROOM],
-    sheet: &[u64; SHEET],
+    sheet: &[u32; SHEET],
     durations: &[u64; SIDE],
     n: usize,
     m: usize,
@@ -74,7 +74,7 @@ fn ease_by(
 fn once(
     all: &[u32; ROOM],
     t: &mut [u32; ROOM],
-    sheet: &[u64; SHEET],
+    sheet: &[u32; SHEET],
     durations: &[u64; SIDE],
     n: usize,
     m: usize,
@@ -91,7 +91,7 @@ fn once(
 pub(crate) fn is_good(
     all: &[u32; ROOM],
     durations: &[u64; SIDE],
-    sheet: &[u64; SHEET],
+    sheet: &[u32; SHEET],
     m: usize,
     n: usize,
     ways: &mut [u32; ROOM],

@@ -120,7 +120,7 @@ pub(crate) fn fall_of(row: Row, p: u64) -> Fall
 // What the negative edge of row `q` does.
 fn ease(
     t: &mut [u32; ROOM],
-    sheet: &[u64; SHEET],
+    sheet: &[u32; SHEET],
     durations: &[u64; SIDE],
     n: usize,
     m: usize,
@@ -144,7 +144,7 @@ fn ease(
 }
 
 // One round over the rows.
-fn round(t: &mut [u32; ROOM], sheet: &[u64; SHEET], durations: &[u64; SIDE], n: usize, m: usize)
+fn round(t: &mut [u32; ROOM], sheet: &[u32; SHEET], durations: &[u64; SIDE], n: usize, m: usize)
     requires { ⌜ RoundReady (now sheet) (now durations) m n (now t) ⌝ }
     ensures { λ _. ⌜ Rounded (now (sheet .entry)) (now (durations .entry)) m n m (now (t .entry)) (now (t .exit)) ⌝ }
 {
@@ -168,7 +168,7 @@ fn total(t: &[u32; ROOM]) -> u64
 // Rounds until nothing falls: the table of the least ways.
 pub(crate) fn settle(
     t: &mut [u32; ROOM],
-    sheet: &[u64; SHEET],
+    sheet: &[u32; SHEET],
     durations: &[u64; SIDE],
     n: usize,
     m: usize,

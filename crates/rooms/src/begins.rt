@@ -21,7 +21,7 @@ fn zeros(kept: &mut [u32; KEPT])
     *kept = [0; KEPT];
 }
 
-fn clear(kept: &mut [u32; KEPT], rows: &[u64; SHEET])
+fn clear(kept: &mut [u32; KEPT], rows: &[u32; SHEET])
     ensures { λ _. ⌜ Begun (now (rows .entry)) 0 (now (kept .exit)) ⌝ }
 {
     zeros(&mut *kept);
@@ -31,7 +31,7 @@ fn clear(kept: &mut [u32; KEPT], rows: &[u64; SHEET])
 }
 
 // Each of the first `count` records that holds a point is counted.
-pub(crate) fn begin_kept(rows: &[u64; SHEET], count: usize, kept: &mut [u32; KEPT])
+pub(crate) fn begin_kept(rows: &[u32; SHEET], count: usize, kept: &mut [u32; KEPT])
     requires { ⌜ count ≤ mostRecords ⌝ }
     ensures { λ _. ⌜ Begun (now (rows .entry)) count (now (kept .exit)) ⌝ }
 {

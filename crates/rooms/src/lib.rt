@@ -45,7 +45,7 @@ const WAIT_ROW: u64 = WAIT as u64;
 
 // The lists of the rows, and the counts.
 pub fn list(
-    rows: &[u64; SHEET],
+    rows: &[u32; SHEET],
     count: usize,
     into: &mut [u16; LIST],
     out: &mut [u16; LIST],
@@ -67,7 +67,7 @@ pub fn list(
 // All rooms of a plan that is accepted.
 fn fill(
     plan: Plan,
-    rows: &mut [u64; SHEET],
+    rows: &mut [u32; SHEET],
     into: &mut [u16; LIST],
     out: &mut [u16; LIST],
     ends: &mut [u16; LIST],
@@ -90,7 +90,7 @@ fn fill(
 // The plan's own refusal, and the rooms as they were; else number 0, and every number of the rooms is the plan's at the fresh board.
 pub fn begin(
     plan: Plan,
-    rows: &mut [u64; SHEET],
+    rows: &mut [u32; SHEET],
     into: &mut [u16; LIST],
     out: &mut [u16; LIST],
     ends: &mut [u16; LIST],

@@ -6,6 +6,7 @@ use lib.ListN.{length, getD, set}
 use Rattle.plan.specs.Choice.{if_then_else_}
 use Rattle.plan.specs.APlan.{link, wait, is, blank, gapOf, linkTo}
 use Rattle.records.specs.declared.Record.{Record}
+use Rattle.rows.specs.declared.layout.Laid.{Laid}
 use Rattle.rows.specs.declared.sheet.Row.{Row}
 use Rattle.rows.specs.Sheet.{kindAt, fromAt, toAt, firstAt, secondAt, overAt, width, sheetRoom}
 
@@ -40,6 +41,10 @@ pub record RowIs (s : List ℕ) (q : ℕ) (x : Row) : Type 0 where
   pub first : firstAt s q ≡ x .first
   pub second : secondAt s q ≡ x .second
   pub over : overAt s q ≡ x .over
+
+-- a row as the sheet holds it, as it is read
+abbrev pub widened : Laid → Row
+widened x = record { kind = x .kind; from = x .from; to = x .to; first = x .first; second = x .second; over = x .over }
 
 -- the sheet with x as its row q
 abbrev pub stored : List ℕ → ℕ → Row → List ℕ

@@ -6,8 +6,7 @@ ghost use Rattle.plan.specs.Choice.{if_then_else_};
 ghost use Rattle.plan.specs.APlan.{recordsOf};
 ghost use Rattle.plan.specs.Limits.{mostRecords};
 ghost use Rattle.rows.specs.Sheet.{sheetRoom};
-ghost use Rattle.rows.specs.Layout.{rowFrom, Starts, stored, LaidOut};
-use crate::sheet::Row;
+ghost use Rattle.rows.specs.Layout.{rowFrom, Starts, widened, stored, LaidOut};
 use crate::sheet::SHEET;
 use crate::sheet::WIDTH;
 use plan::LINK;
@@ -19,20 +18,24 @@ use plan::split;
 // How many numbers a byte can be.
 const BYTES: usize = 256;
 
-fn byte(x: u8) -> u64
-    ensures { λ r. ⌜ r ≡ x ⌝ }
-{
-    x as u64
+// A row as the sheet holds it.
+struct Laid {
+    kind: u32,
+    from: u32,
+    to: u32,
+    first: u32,
+    second: u32,
+    over: u32,
 }
 
-fn word(x: u32) -> u64
+fn byte(x: u8) -> u32
     ensures { λ r. ⌜ r ≡ x ⌝ }
 {
-    x as u64
+    x as u32
 }
 
 // The first where `so`, else the second.
-fn pick(so: bool, a: u64, b: u64) -> u64
+fn pick(so: bool, a: u32, b: u32) -> u32
     ensures { λ r. ⌜ r ≡ (if so then a else b) ⌝ }
 {
     if so { a } else { b }
@@ -62,27 +65,27 @@ fn starts_of(plan: Plan) -> [u8; BYTES]
 }
 
 // The row of a record, where `start` is the A of the link that ends at its second point.
-fn row_of(r: Record, start: u8) -> Row
-    ensures { λ x. ⌜ x ≡ rowFrom r start ⌝ }
+fn row_of(r: Record, start: u8) -> Laid
+    ensures { λ x. ⌜ widened x ≡ rowFrom r start ⌝ }
 {
     let first = split(r.first);
     let second = split(r.second);
     let from = byte(r.a);
     let over = byte(r.b);
-    Row {
+    Laid {
         kind: byte(r.kind),
         from: from,
         to: pick(r.kind == WAIT, byte(start), over),
-        first: word(first.up),
-        second: pick(r.kind == LINK, word(second.up), word(first.down)),
+        first: first.up,
+        second: pick(r.kind == LINK, second.up, first.down),
         over: over,
     }
 }
 
 // Row `q` of the sheet.
-fn write_row(sheet: &mut [u64; SHEET], q: usize, row: Row)
+fn write_row(sheet: &mut [u32; SHEET], q: usize, row: Laid)
     requires { ⌜ q < mostRecords ⌝ }
-    ensures { λ _. ⌜ now (sheet .exit) ≡ stored (now (sheet .entry)) q row ⌝ }
+    ensures { λ _. ⌜ now (sheet .exit) ≡ stored (now (sheet .entry)) q (widened row) ⌝ }
 {
     let at = q * WIDTH;
     sheet[at] = row.kind;
@@ -93,14 +96,14 @@ fn write_row(sheet: &mut [u64; SHEET], q: usize, row: Row)
     sheet[at + 5] = row.over;
 }
 
-fn zeros(sheet: &mut [u64; SHEET])
+fn zeros(sheet: &mut [u32; SHEET])
     ensures { λ _. ⌜ now (sheet .exit) ≡ replicate sheetRoom 0 ⌝ }
 {
     *sheet = [0; SHEET];
 }
 
 // The sheet of a plan, and zeros behind its rows, whatever the sheet held.
-pub fn lay_out(plan: Plan, sheet: &mut [u64; SHEET])
+pub fn lay_out(plan: Plan, sheet: &mut [u32; SHEET])
     requires { ⌜ plan .count ≤ mostRecords ⌝ }
     ensures { λ _. ⌜ LaidOut (recordsOf plan) (now (sheet .exit)) ⌝ }
 {

@@ -9,3 +9,4 @@ pub use sheet::SHEET;
 pub use sheet::fill;
 pub use sheet::index;
 pub use sheet::row_at;
+pub use sheet::word;

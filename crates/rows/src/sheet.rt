@@ -16,7 +16,8 @@ use tables::begin;
 use tables::close;
 use tables::offer_of;
 
-// A row has the record's kind, the points that it joins, from and to, its two numbers, and its second point.
+// A row has the record's kind, the points that it joins, from and to, its two numbers, and its second point. The sheet holds 32 bits of
+// each, which is all that a record has.
 pub struct Row {
     pub kind: u64,
     pub from: u64,
@@ -41,6 +42,13 @@ fn lesser(a: u64, b: u64) -> u64
     ensures { λ r. ⌜ r ≡ min a b ⌝ }
 {
     if a < b { a } else { b }
+}
+
+// A number of the sheet, where sums are of 64 bits.
+pub fn word(x: u32) -> u64
+    ensures { λ r. ⌜ r ≡ x ⌝ }
+{
+    x as u64
 }
 
 pub fn index(x: u64) -> usize
@@ -75,18 +83,18 @@ fn put(
 }
 
 // Row `q` of the sheet.
-pub fn row_at(sheet: &[u64; SHEET], q: usize) -> Row
+pub fn row_at(sheet: &[u32; SHEET], q: usize) -> Row
     requires { ⌜ q < mostRecords ⌝ }
     ensures { λ r. ⌜ r ≡ rowAt (now (sheet .entry)) q ⌝ }
 {
     let at = q * WIDTH;
     Row {
-        kind: sheet[at],
-        from: sheet[at + 1],
-        to: sheet[at + 2],
-        first: sheet[at + 3],
-        second: sheet[at + 4],
-        over: sheet[at + 5],
+        kind: word(sheet[at]),
+        from: word(sheet[at + 1]),
+        to: word(sheet[at + 2]),
+        first: word(sheet[at + 3]),
+        second: word(sheet[at + 4]),
+        over: word(sheet[at + 5]),
     }
 }
 
@@ -94,7 +102,7 @@ pub fn row_at(sheet: &[u64; SHEET], q: usize) -> Row
 fn lay(
     t: &mut [u32; ROOM],
     part: Part,
-    sheet: &[u64; SHEET],
+    sheet: &[u32; SHEET],
     durations: &[u64; SIDE],
     n: usize,
     q: usize,
@@ -120,7 +128,7 @@ fn lay(
 fn draw(
     t: &mut [u32; ROOM],
     part: Part,
-    sheet: &[u64; SHEET],
+    sheet: &[u32; SHEET],
     durations: &[u64; SIDE],
     n: usize,
     m: usize,
@@ -138,7 +146,7 @@ fn draw(
 pub fn fill(
     t: &mut [u32; ROOM],
     part: Part,
-    sheet: &[u64; SHEET],
+    sheet: &[u32; SHEET],
     durations: &[u64; SIDE],
     n: usize,
     m: usize,

@@ -47,7 +47,7 @@ fn pick(so: bool, a: u8, b: u8) -> u8
 }
 
 // The A of the link that ends at each point by the first m rows, past the last place where none does: from the last row to the first.
-fn starts_of(sheet: &[u64; SHEET], m: usize) -> [u8; SIDE]
+fn starts_of(sheet: &[u32; SHEET], m: usize) -> [u8; SIDE]
     requires { ⌜ m ≤ mostRecords ⌝ }
     ensures { λ t. ⌜ StartsIn (now (sheet .entry)) m t ⌝ }
 {
@@ -64,7 +64,7 @@ fn starts_of(sheet: &[u64; SHEET], m: usize) -> [u8; SIDE]
 
 // The rooms of a run, from the first m rows: the three lists of them, what is kept of the fresh board, and where each link starts.
 pub fn begin_rooms(
-    sheet: &[u64; SHEET],
+    sheet: &[u32; SHEET],
     m: usize,
     into: &mut [u16; LIST],
     out: &mut [u16; LIST],

@@ -36,7 +36,7 @@ pub fn test(plan: Plan) -> Answer
     if found.number != ACCEPTED {
         return Answer::Refused(found.number, found.place);
     }
-    let mut sheet = [0u64; SHEET];
+    let mut sheet = [0u32; SHEET];
     lay_out(plan, &mut sheet);
     let n = points_of(plan) as usize;
     let links = links_of(plan) as usize;

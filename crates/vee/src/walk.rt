@@ -46,7 +46,7 @@ fn walk(
     ahead: usize,
     number: u32,
     durations: [u64; SIDE],
-    sheet: &[u64; SHEET],
+    sheet: &[u32; SHEET],
     m: usize,
     n: usize,
     past: usize,
@@ -90,7 +90,7 @@ fn walk(
 // What is found of all projections, with two tables for every one of them and a small frame for each link.
 pub(crate) fn walk_all(
     links: usize,
-    sheet: &[u64; SHEET],
+    sheet: &[u32; SHEET],
     m: usize,
     n: usize,
     past: usize,
@@ -106,7 +106,7 @@ pub(crate) fn walk_all(
 
 // How many projections the links of the `links` rows before row `past` have; once there are too many, some number that is
 // too many.
-pub(crate) fn projections(sheet: &[u64; SHEET], past: usize, links: usize) -> u64
+pub(crate) fn projections(sheet: &[u32; SHEET], past: usize, links: usize) -> u64
     requires { ⌜ RowsReady (now sheet) past links ⌝ }
     ensures { λ r. ⌜ CountedAs (now (sheet .entry)) past links r ⌝ }
 {

@@ -78,7 +78,7 @@ pub fn worst_of(plan: Plan) -> Worst
     if refused.number != ACCEPTED {
         return Worst::Refused(refused.number, refused.place);
     }
-    let mut sheet = [0u64; SHEET];
+    let mut sheet = [0u32; SHEET];
     lay_out(plan, &mut sheet);
     let n = points_of(plan);
     let links = links_of(plan) as usize;
@@ -101,7 +101,7 @@ pub fn day_of(plan: Plan, projection: u32, out: &mut [u8]) -> Day
     if many <= projection {
         return day_as(ACCEPTED, 0, 0);
     }
-    let mut sheet = [0u64; SHEET];
+    let mut sheet = [0u32; SHEET];
     lay_out(plan, &mut sheet);
     let n = points_of(plan);
     let links = links_of(plan) as usize;

@@ -30,7 +30,7 @@ fn worse(found: Found, t: u32, i: u32) -> Found
 }
 
 // The worst of all projections' runs.
-pub(crate) fn worst_run(sheet: &[u64; SHEET], m: usize, n: u32, links: usize, many: u32) -> Found
+pub(crate) fn worst_run(sheet: &[u32; SHEET], m: usize, n: u32, links: usize, many: u32) -> Found
     requires { ⌜ WorstAsks (now sheet) m n links many ⌝ }
     ensures { λ r. ⌜ FoundOf (now (sheet .entry)) m n links many r ⌝ }
 {

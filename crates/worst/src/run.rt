@@ -56,7 +56,7 @@ fn event_bytes(e: Event) -> [u8; RECORD_BYTES]
 }
 
 pub(crate) fn run(
-    sheet: &[u64; SHEET],
+    sheet: &[u32; SHEET],
     into: &[u16; LIST],
     out: &[u16; LIST],
     ends: &[u16; LIST],
@@ -98,7 +98,7 @@ pub(crate) fn day_as(number: u32, place: u32, events: u32) -> Day
 
 // The events of a run into the front of the buffer, or 12 where it is too short for them: a first run counts them.
 pub(crate) fn write_day(
-    sheet: &[u64; SHEET],
+    sheet: &[u32; SHEET],
     m: usize,
     n: u32,
     durations: &[u64; SIDE],

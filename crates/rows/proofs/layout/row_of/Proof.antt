@@ -1,4 +1,5 @@
 -- `rows::layout::row_of` meets its contract. Assumes nothing.
+use mathlib.Core.Path.{refl}
 use mir.Syntax.{w32}
 use mir.ValLaws.{toZ-ofZ}
 use Rattle.rows.proofs.Layouts.{row-is}
@@ -27,20 +28,16 @@ byte-requires-4 c κs = search needs
 pick-requires : tie.Need-pick-requires
 pick-requires c κs = search needs
 
-word-requires : tie.Need-word-requires
-word-requires c κs = search needs
-
-word-requires-2 : tie.Need-word-requires-2
-word-requires-2 c κs = search needs
-
-word-requires-3 : tie.Need-word-requires-3
-word-requires-3 c κs = search needs
-
 pick-requires-2 : tie.Need-pick-requires-2
 pick-requires-2 c κs = search needs
 
 returns : tie.Need-returns
-returns c = row-is (c .before .before .before .before .before .before .before .before .before .before .before .before .before .before .before .args .r) (c .before .before .before .before .before .before .before .before .before .before .before .before .before .before .before .args .start) (c .before .before .before .before .before .before .before .before .byte3 .ensures) (c .before .before .before .before .before .before .before .before .before .before .byte .ensures) (c .before .before .before .before .before .before .before .before .before .byte2 .ensures) (c .before .before .before .before .before .before .byte4 .ensures) (c .before .before .before .before .before .pick .ensures) (rw (toZ-ofZ w32 (c .before .before .before .before .before .before .before .before .before .before .before .before .before .before .before .args .r .first) (sfits-of (c .before .before .before .before .before .before .before .before .before .before .before .before .before .before .struct-told .given .1 .1 .1 .0 .1))) at (c .before .before .before .before .before .before .before .before .before .before .before .before .before .split .ensures)) (rw (toZ-ofZ w32 (c .before .before .before .before .before .before .before .before .before .before .before .before .before .before .before .args .r .second) (sfits-of (c .before .before .before .before .before .before .before .before .before .before .before .before .struct-told2 .given .1 .1 .1 .1 .0 .1))) at (c .before .before .before .before .before .before .before .before .before .before .before .split2 .ensures)) (c .before .before .before .before .word .ensures) (c .before .before .word2 .ensures) (c .before .word3 .ensures) (c .pick2 .ensures)
+returns c =
+    let d = c .before .before .before .before .before .before .before in
+    let a = d .before .before .before .before .before .args in
+    let first = rw (toZ-ofZ w32 (a .r .first) (sfits-of (d .before .before .before .before .struct-told .given .1 .1 .1 .0 .1))) at (d .before .before .before .split .ensures) in
+    let second = rw (toZ-ofZ w32 (a .r .second) (sfits-of (d .before .before .struct-told2 .given .1 .1 .1 .1 .0 .1))) at (d .before .split2 .ensures) in
+    row-is (a .r) (a .start) (c .before .before .before .before .before .byte3 .ensures) (d .byte .ensures) (c .before .before .before .before .before .before .byte2 .ensures) (c .before .before .before .byte4 .ensures) (c .before .before .pick .ensures) first second refl refl refl (c .pick2 .ensures)
 
 pub row-of-spec : {M : Type 1} → statement M
 row-of-spec =
@@ -53,8 +50,5 @@ row-of-spec =
     byte-requires-3
     byte-requires-4
     pick-requires
-    word-requires
-    word-requires-2
-    word-requires-3
     pick-requires-2
     returns)

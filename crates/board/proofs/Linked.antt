@@ -18,6 +18,7 @@ use Rattle.calls.proofs.Laws.{numbered-by}
 use Rattle.running.proofs.ByRecords.{all-sound}
 use Rattle.board.specs.Boards.{fits, largest, each, inBounds, sound}
 use Rattle.board.specs.Calls.{earlier, wellNumbered}
+use Rattle.board.specs.Stuck.{finished}
 use Rattle.board.specs.ByLinks.{soundElse, soundBy}
 use Rattle.board.specs.declared.Board.{Board}
 
@@ -57,3 +58,7 @@ sound-by p ok l w b =
 -- whatever the code has for it
 pub sound-known : (p : Plan) → checkOf p .number ≡ 0 → (l : Links) → LinksOf (recordsOf p) l → (b : Board) (t k : Bool) → t ≡ soundBy l b → t ≡ k → sound (recordsOf p) b ≡ k
 sound-known p ok l w b t k e f = sym (sound-by p ok l w b) ∙ sym e ∙ f
+
+-- all points are done, by the links
+pub finished-known : (rs : List Record) (l : Links) → LinksOf rs l → (b : Board) (t k : Bool) → t ≡ eqb (b .done) (belowOf (l .points)) → t ≡ k → finished rs b ≡ k
+finished-known rs l w b t k e f = sym (λ i. eqb (b .done) (belowOf (w .points i))) ∙ sym e ∙ f

@@ -45,8 +45,7 @@ fn is_sound_else(board: Board, all: u32, watched: u32) -> bool
     subset(done, all)
         & (all_fit(clock, done, minutes)
             & ((clock == last_done(done, minutes))
-                & ((clock <= FARTHEST * count(done))
-                    & is_numbered(done, minutes, calls, watched))))
+                & ((clock <= FARTHEST * count(done)) & is_numbered(done, minutes, calls, watched))))
 }
 
 // What soundness asks of the links, by the records of any plan.

@@ -98,7 +98,14 @@ fn is_so_by(clock: u32, done: u32, minutes: &[u32], ask: Ask, r: Record) -> bool
     if r.kind != LINK {
         return true;
     }
-    is_so(clock, done, minute_in(minutes, r.a), minute_in(minutes, r.b), ask, r)
+    is_so(
+        clock,
+        done,
+        minute_in(minutes, r.a),
+        minute_in(minutes, r.b),
+        ask,
+        r,
+    )
 }
 
 // Whether it is so of every record.

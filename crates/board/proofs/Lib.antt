@@ -2,6 +2,7 @@
 mod Marking
 pub mod Theorems
 pub mod Opening
+pub mod Linked
 pub mod Replying
 pub mod Taking
 pub mod Streaming

@@ -8,3 +8,4 @@ pub mod Why
 pub mod Streams
 pub mod Inside
 pub mod InsideReplies
+pub mod ByLinks

@@ -11,7 +11,7 @@ ghost use Rattle.board.specs.InsideReplies.{Ready};
 use crate::Board;
 use crate::Taken;
 use crate::UNSOUND;
-use crate::sound::is_sound_with;
+use crate::sound::is_sound_by;
 use events::Event;
 use events::NO_POINT;
 use events::event_in;
@@ -22,6 +22,7 @@ use plan::ACCEPTED;
 use plan::Plan;
 use plan::Refusal;
 use plan::check;
+use planless::number_from;
 use points::MOST;
 use points::first;
 use points::with;
@@ -91,7 +92,8 @@ fn event_number(plan: Plan, board: Board, links: Links, event: &[u8]) -> Refusal
     ensures place { λ r. ⌜ r .place ≡ eventRecord (recordsOf plan) board (now (event .entry)) ⌝ }
 {
     let minutes = board.minutes;
-    windows::event_number(plan, links, board.clock, board.done, minutes, event)
+    let w = windows::windows_of(plan, links, board.clock, board.done, minutes);
+    number_from(links, board.clock, board.done, minutes, w, event)
 }
 
 pub fn answer(number: u32, place: u32, board: Board) -> Taken
@@ -129,7 +131,7 @@ impl Board {
             return answer(found.number, found.place, self);
         }
         let links = links_of(plan);
-        if !is_sound_with(plan, self, links) {
+        if !is_sound_by(self, links) {
             return answer(UNSOUND, 0, self);
         }
         take_next(plan, self, links, event)

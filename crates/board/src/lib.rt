@@ -1,6 +1,7 @@
 // The board: soundness and events. Document 01, "Board, windows, replies" and "Events"; specs/ states them in that order.
 // `fresh`, `minute_of`, `is_sound`, `is_finished`, `take` and `take_all` take any plan, any board and any bytes and answer;
-// `windows_of`, `is_stuck` and `is_sound_with` serve the crates `replies` and `verdict` and assume what their contracts ask;
+// `windows_of`, `is_sound_by` and `is_finished_by` serve the crates `replies` and `verdict`, and the first assumes what its
+// contract asks;
 // `after` and `answer` serve `planless_board`.
 
 ghost use mathlib.Core.Path.{_≡_};
@@ -18,10 +19,10 @@ pub use links::NOT_IN_TIME;
 pub use links::NOT_RUNNING;
 pub use links::RUN_OUT;
 pub use sound::is_sound;
-pub use sound::is_sound_with;
+pub use sound::is_sound_by;
 pub use sound::minute_of;
 pub use standing::is_finished;
-pub use standing::is_stuck;
+pub use standing::is_finished_by;
 pub use standing::windows_of;
 pub use stream::SAID;
 pub use windows::ALL_DONE;

@@ -12,7 +12,7 @@ use crate::Taken;
 use crate::UNSOUND;
 use crate::event::answer;
 use crate::event::take_next;
-use crate::sound::is_sound_with;
+use crate::sound::is_sound_by;
 use events::fewer;
 use events::put_four;
 use links::Links;
@@ -68,7 +68,7 @@ impl Board {
             return answer(found.number, found.place, self);
         }
         let links = links_of(plan);
-        if !is_sound_with(plan, self, links) {
+        if !is_sound_by(self, links) {
             return answer(UNSOUND, 0, self);
         }
         let n = fewer(events.len() / RECORD_BYTES, room.len() / SAID);

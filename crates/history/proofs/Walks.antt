@@ -11,11 +11,14 @@ use lib.Seq.{drop-cons}
 use Rattle.points.specs.Sets.{membersOf, from, every}
 use Rattle.points.proofs.Laws.{Turn, members-empty}
 use Rattle.plan.specs.Limits.{mostRecords}
-use Rattle.plan.specs.APlan.{some, blank, recordsOf}
+use Rattle.plan.specs.APlan.{link, is, some, blank, recordsOf}
 use Rattle.plan.proofs.Records.{next-record, last-record}
 use Rattle.records.specs.declared.Record.{Record}
 use Rattle.plan.specs.declared.Plan.{Plan}
 use Rattle.history.specs.History.{minuteIn, each, largest}
+use Rattle.history.specs.Inside.{asked}
+use Rattle.history.specs.declared.each.Ask.{Ask}
+use Rattle.history.specs.declared.each.Ask.the-variants.{InBounds, NotRunning, NotLate, Earlier}
 
 -- the points from i up to n
 module _ (test : ℕ → Bool) (n i : ℕ) where
@@ -64,6 +67,13 @@ module _ (so : Record → Bool) (p : Plan) (n : ℕ) where
     pub left-end : n ≤ i → true ≡ each so (recordsOf p)
     unfolding each
     left-end h = rw (drop-of-length-le (recordsOf p) (last-record p (w .room) n (w .all) i h)) at (w .same)
+
+-- what is asked of every record is so of one that is no link
+pub so-of-others : (clock done : ℕ) (minutes : List ℕ) (ask : Ask) (r : Record) → is link r ≡ false → asked clock done minutes ask r ≡ true
+so-of-others clock done minutes InBounds r e = rw e
+so-of-others clock done minutes NotRunning r e = rw e
+so-of-others clock done minutes (NotLate t ended) r e = rw e
+so-of-others clock done minutes Earlier r e = rw e
 
 -- none of the records is so
 pub none-so : (so : Record → Bool) (rs : List Record) → each (λ (r : Record). not (so r)) rs ≡ not (some so rs)

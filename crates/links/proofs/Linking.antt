@@ -14,7 +14,7 @@ use Rattle.points.specs.Sets.{member, withOf}
 use Rattle.points.proofs.Laws.{member-empty, member-with, with-fits, with-past}
 use Rattle.plan.specs.Choice.{if_then_else_}
 use Rattle.plan.specs.Limits.{mostPoints}
-use Rattle.plan.specs.APlan.{point, link, is, one, howMany, some, endsAt, watched, firstThat, linkTo, blank}
+use Rattle.plan.specs.APlan.{point, link, byteOf, is, one, howMany, some, endsAt, watched, firstThat, linkTo, blank}
 use Rattle.records.specs.declared.Record.{Record}
 use Rattle.links.specs.Inside.{endIn, noEnd, endOf, watchedAfter, endAfter, LinksOf}
 use Rattle.links.specs.declared.End.{End}
@@ -120,6 +120,19 @@ module _ (rs : List Record) (n s : ℕ) (ends : List End) (w : LinksOf rs (links
 pub links-turn : (rs : List Record) (i : ℕ) (n s : ℕ) (ends : List End) → LinksOf (take i rs) (linksAs n s ends) → i < length rs → (r : Record) → getD rs i blank ≡ r
     → LinksOf (take (i + 1) rs) (linksAs (n + one (is point r)) (watchedAfter r s) (set ends (r .b % mostPoints) (endAfter r s (getD ends (r .b % mostPoints) noEnd))))
 links-turn rs i n s ends w h r e = rw (one-more rs i h, e) (links-more (take i rs) n s ends w r)
+
+module _ (rs : List Record) (i n s : ℕ) (ends : List End) (w : LinksOf (take i rs) (linksAs n s ends)) (h : i < length rs) (r : Record) (e : getD rs i blank ≡ r) where
+  -- a record that is no link
+  pub other-turn : (r .kind ≡ byteOf link → ⊥) → LinksOf (take (i + 1) rs) (linksAs (n + one (is point r)) s ends)
+  other-turn k = rw (ne-eqb (r .kind) (byteOf link) k, set-getD ends (r .b % mostPoints) noEnd) at (links-turn rs i n s ends w h r e)
+
+  -- a link
+  pub link-turn : r .kind ≡ byteOf link
+      → LinksOf (take (i + 1) rs) (linksAs n (watchedAfter r s) (set ends (r .b % mostPoints) (endAfter r s (getD ends (r .b % mostPoints) noEnd))))
+  link-turn k =
+      let p : is point r ≡ false = ne-eqb (r .kind) (byteOf point) (λ q. omega (arith, k)) in
+      let z : n + 0 ≡ n = omega arith in
+      rw (p, z) at (links-turn rs i n s ends w h r e)
 
 -- ---- the link that ends at a watched point
 

@@ -89,12 +89,15 @@ pub fn links_of(plan: Plan) -> Links
     let mut i: usize = 0;
     while i < count {
         let r = plan.records[i];
+        i += 1;
+        if r.kind != LINK {
+            points += one_if(r.kind == POINT);
+            continue;
+        }
         let c = r.b as usize % ROOM;
         let end = ends[c];
         ends[c] = end_after(r, watched, end);
         watched = watched_after(r, watched);
-        points += one_if(r.kind == POINT);
-        i += 1;
     }
     Links {
         points: points,

@@ -21,7 +21,11 @@ use Rattle.board.specs.Boards.{sound, isDone, minute}
 use Rattle.board.specs.Windows.{isOpen, holder, low, someOpen}
 use Rattle.board.specs.Stuck.{finished, stuck, latest}
 use Rattle.links.specs.Inside.{LinksOf}
-use Rattle.board.specs.InsideReplies.{WindowsOf}
+use Rattle.board.specs.InsideReplies.{Ready, WindowsOf}
+use Rattle.board.proofs.Replying.{stuck-here}
+use Rattle.planless.specs.ByWindows.{stuckBy}
+use Rattle.planless.proofs.ByPlan.{stuck-same}
+use Rattle.plan.proofs.Accepted.{accepted-plan}
 use Rattle.board.specs.declared.Board.{Board}
 use Rattle.links.specs.declared.Links.{Links}
 use Rattle.windows.specs.declared.Windows.{Windows}
@@ -32,6 +36,14 @@ use Rattle.replies.specs.declared.State.{State}
 use Rattle.replies.specs.declared.State.the-variants.{Done, Watched, Shut, Held, Offered}
 use Rattle.replies.specs.declared.Outcome.{Outcome}
 use Rattle.replies.specs.declared.Outcome.the-variants.{Refused, Finished, Stuck, Waiting, Offers}
+
+-- ---- whether the board is stuck, from the links and the windows
+
+pub stuck-known : (p : Plan) (b : Board) (l : Links) → Ready p b l → (w : Windows) → WindowsOf (recordsOf p) b w → (t k : Bool) → t ≡ stuckBy l (b .done) w → t ≡ k
+    → stuck (recordsOf p) b ≡ k
+stuck-known p b l r w ws t k e f =
+    let same = stuck-same (recordsOf p) (accepted-plan p (r .accepted)) l (r .links) (b .done) w in
+    sym (same ∙ stuck-here (recordsOf p) b w ws) ∙ sym e ∙ f
 
 -- ---- the list of an offer
 

@@ -10,15 +10,15 @@ ghost use Rattle.replies.specs.Inside.{stateFrom, listFrom};
 use board::Board;
 use board::ROOM;
 use board::UNSOUND;
-use board::is_finished;
-use board::is_sound_with;
-use board::is_stuck;
+use board::is_finished_by;
+use board::is_sound_by;
 use board::windows_of;
 use links::Links;
 use links::links_of;
 use plan::ACCEPTED;
 use plan::Plan;
 use plan::check;
+use planless::stuck_from;
 use points::MOST;
 use points::has;
 use windows::Windows;
@@ -146,11 +146,11 @@ fn reply_sound(plan: Plan, board: Board, links: Links) -> Reply
     requires { ⌜ Ready plan board links ⌝ }
     ensures { λ r. ⌜ r ≡ soundReply (recordsOf plan) board ⌝ }
 {
-    if is_finished(plan, board) {
+    if is_finished_by(board, links) {
         return nothing_more(Outcome::Finished);
     }
     let w = windows_of(plan, board, links);
-    if is_stuck(plan, board, w) {
+    if stuck_from(links, board.done, w) {
         return list(Outcome::Stuck, board, links.watched, w, false, 0);
     }
     if w.opens == 0 {
@@ -176,7 +176,7 @@ pub fn reply_of(plan: Plan, board: Board) -> Reply
         return nothing_more(Outcome::Refused(found.number, found.place));
     }
     let links = links_of(plan);
-    if !is_sound_with(plan, board, links) {
+    if !is_sound_by(board, links) {
         return nothing_more(Outcome::Refused(UNSOUND, 0));
     }
     reply_sound(plan, board, links)

@@ -1,8 +1,8 @@
 -- Of an accepted plan's table of links each answer is the one from the plan's records: no point ends two links, so to ask
 -- every watched point's link is to ask every link. Assumes nothing.
 use mathlib.Core.Path.{_≡_, refl, sym, ap, _∙_}
-use mathlib.Core.Bool.{Bool, true, false, not, _&&_, _||_}
-use mathlib.Core.List.{List}
+use mathlib.Core.Bool.{Bool, true, false, not, _&&_, _||_, and-false}
+use mathlib.Core.List.{List, [], _∷_}
 use Prim.Native.Nat.{ℕ, _+_, _<_}
 use native.Mathlib.Omega.{arith}
 use lib.Dec.{leb}
@@ -13,14 +13,14 @@ use Rattle.plan.specs.Limits.{mostPoints}
 use Rattle.plan.specs.APlan.{point, link, is, some, watched, endsAt, linkTo, blank}
 use Rattle.records.specs.declared.Record.{Record}
 use Rattle.plan.proofs.Accepted.{Accepted, getD-some, not-a}
-use Rattle.history.specs.History.{minuteIn, runs, each, notLate}
+use Rattle.history.specs.History.{minuteIn, runs, each, inBounds, earlier, notLate}
 use Rattle.history.proofs.Lists.{every-member, member-every, each-at, at-each}
 use Rattle.history.proofs.Walks.{none-so}
 use Rattle.links.specs.Inside.{LinksOf, setNumber}
 use Rattle.links.specs.declared.Links.{Links}
 use Rattle.links.proofs.Linking.{runs-to}
 use Rattle.links.proofs.Setting.{all-run, all-timely}
-use Rattle.running.specs.ByTable.{endAt, runsTo, anyRuns, notLateAt, setNumberOf}
+use Rattle.running.specs.ByTable.{endAt, runsTo, anyRuns, soundAt, notLateAt, setNumberOf}
 
 -- two tests that hold together are the same
 alike : (a b : Bool) → (a ≡ true → b ≡ true) → (b ≡ true → a ≡ true) → a ≡ b
@@ -31,6 +31,17 @@ alike false false f g = refl
 twice-not : (a : Bool) → not (not a) ≡ a
 twice-not true = refl
 twice-not false = refl
+
+-- two tests of every record
+each-both : (f g : Record → Bool) (rs : List Record) → each (λ (r : Record). f r && g r) rs ≡ (each f rs && each g rs)
+unfolding each
+each-both f g [] = refl
+each-both f g (r ∷ rs) = rw (each-both f g rs) (go (f r) (g r) (each f rs) (each g rs))
+  where
+    go : (a b c d : Bool) → ((a && b) && (c && d)) ≡ ((a && c) && (b && d))
+    go false b c d = refl
+    go true true c d = refl
+    go true false c d = sym (and-false c)
 
 module _ (rs : List Record) (ok : Accepted rs) (l : Links) (has : LinksOf rs l) where
   -- a test of records that only a link can fail, and what the table says of it
@@ -69,6 +80,14 @@ module _ (rs : List Record) (ok : Accepted rs) (l : Links) (has : LinksOf rs l) 
       (λ c h k. ap not (runs-here done c h k))
       in
       ap not (e ∙ none-so (runs done) rs) ∙ twice-not (some (runs done) rs)
+
+  -- soundness
+  pub all-sound : (clock done : ℕ) (minutes calls : List ℕ)
+      → every (soundAt l clock done minutes calls) (membersOf (l .watched)) ≡ (each (inBounds clock done minutes) rs && each (earlier done calls) rs)
+  all-sound clock done minutes calls =
+      each-link (λ (r : Record). inBounds clock done minutes r && earlier done calls r) (soundAt l clock done minutes calls) (λ r k. rw k)
+      (λ c h k. rw (has .ends c h, ok .ends c k .0, ok .ends c k .1))
+      ∙ each-both (inBounds clock done minutes) (earlier done calls) rs
 
   -- 27
   none-late : (done : ℕ) (minutes : List ℕ) (t set : ℕ) → every (notLateAt l done minutes t set) (membersOf (l .watched)) ≡ each (notLate done minutes t set) rs

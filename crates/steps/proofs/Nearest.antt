@@ -25,6 +25,11 @@ pub opened : (kept starts : List ℕ) (n q : ℕ) {done : Bool} → done ≡ mem
     → ((ltb q n && (leb mostPoints (getD starts q 0) && not done)) && eqb (getD kept q 0) 0) ≡ openBy kept starts n q
 opened kept starts n q e = λ i. (ltb q n && (leb mostPoints (getD starts q 0) && not (e i))) && eqb (getD kept q 0) 0
 
+-- a choice, the other way round
+pub turned : (done : Bool) (x : ℕ) → (if done then never else x) ≡ (if not done then x else never)
+turned true x = refl
+turned false x = refl
+
 -- what is sooner takes the place of what was found, and nothing else does
 pub is-sooner : (found : Least) (t q : ℕ) → t < found .minute → record { minute = t; point = q } ≡ nearer found t q
 is-sooner found t q h = rw (lt-ltb t (found .minute) h) refl
@@ -80,6 +85,34 @@ set-turn test left {set} {next} h l e f =
 
 pub set-end : (test : ℕ → Bool) (left : ℕ) {set : ℕ} → left ≡ 0 → set ≡ setOf test (from left (mostPoints - left)) → set ≡ setOf test (from 0 mostPoints)
 set-end test left e h = rw e at h
+
+-- ---- before the least
+
+-- what is kept of two is past neither
+nearer-least : (found : Least) (t q : ℕ) → (nearer found t q .minute ≤ found .minute) × (nearer found t q .minute ≤ t)
+nearer-least found t q = go (ltb t (found .minute)) refl
+  where
+    go : (c : Bool) → ltb t (found .minute) ≡ c
+        → ((if c then record { minute = t; point = q } else found) .minute ≤ found .minute) × ((if c then record { minute = t; point = q } else found) .minute ≤ t)
+    go true e = omega (arith, ltb-true t (found .minute) e)
+    go false e = omega (arith, ltb-false t (found .minute) e)
+
+falls : (f : ℕ → ℕ) (found : Least) (qs : List ℕ) → nearestFrom f found qs .minute ≤ found .minute
+unfolding nearestFrom
+falls f found [] = omega arith
+falls f found (q ∷ qs) = omega (arith, falls f (nearer found (f q) q) qs, nearer-least found (f q) q)
+
+-- no point of qs has a minute before the least of them
+none-from : (f : ℕ → ℕ) (t : ℕ) (found : Least) (qs : List ℕ) → t < nearestFrom f found qs .minute → setOf (λ (q : ℕ). eqb (f q) t && ltb t never) qs ≡ 0
+unfolding nearestFrom setOf
+none-from f t found [] h = refl
+none-from f t found (q ∷ qs) h =
+    let n : eqb (f q) t ≡ false = ne-eqb (f q) t (λ e. omega (arith, e, falls f (nearer found (f q) q) qs, nearer-least found (f q) q)) in
+    rw n (none-from f t (nearer found (f q) q) qs h)
+
+pub none-then : (kept starts w : List ℕ) (t soonest : ℕ) → soonest ≡ nearest (endBy kept starts w) .minute → t < soonest → 0 ≡ setOf (endsThen kept starts w t) (from 0 mostPoints)
+none-then kept starts w t soonest e h =
+    sym (none-from (endBy kept starts w) t (record { minute = never; point = noPoint }) (from 0 mostPoints) (omega (arith, e)))
 
 -- ---- what they find
 

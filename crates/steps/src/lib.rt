@@ -110,7 +110,10 @@ fn low_by(kept: &[u32; KEPT], starts: &[u8; SIDE], n: u32, q: u8) -> u32
     requires { ⌜ q < mostPoints ⌝ }
     ensures { λ r. ⌜ r ≡ lowBy (now (kept .entry)) (now (starts .entry)) n q ⌝ }
 {
-    either(is_open(kept, starts, n, q), low_at(kept, q), NEVER)
+    if !is_open(kept, starts, n, q) {
+        return NEVER;
+    }
+    low_at(kept, q)
 }
 
 // When the link that ends at a point ends, past every minute where none is running.
@@ -121,9 +124,11 @@ fn end_by(kept: &[u32; KEPT], starts: &[u8; SIDE], durations: &[u64; SIDE], c: u
     let at = c as usize;
     let a = starts[at];
     let done = kept[DONE];
-    let runs = has(done, a) & !has(done, c);
+    if !has(done, a) {
+        return NEVER;
+    }
     let start = kept[MINUTES + place_of(a)];
-    either(runs, sum(start, narrow(durations[at])), NEVER)
+    either(has(done, c), NEVER, sum(start, narrow(durations[at])))
 }
 
 // ---- all points
@@ -188,6 +193,23 @@ fn ending(kept: &[u32; KEPT], starts: &[u8; SIDE], durations: &[u64; SIDE], t: u
     set
 }
 
+// The same, where the first link ends at the minute `soonest`: before that none does.
+fn ending_from(
+    kept: &[u32; KEPT],
+    starts: &[u8; SIDE],
+    durations: &[u64; SIDE],
+    t: u32,
+    soonest: u32,
+) -> u32
+    requires { ⌜ soonest ≡ nearest (endBy (now kept) (now starts) (now durations)) .minute ⌝ }
+    ensures { λ s. ⌜ s ≡ setOf (endsThen (now (kept .entry)) (now (starts .entry)) (now (durations .entry)) t) (from 0 mostPoints) ⌝ }
+{
+    if t < soonest {
+        return 0;
+    }
+    ending(kept, starts, durations, t)
+}
+
 // The aim, or the end of a link where that is before it.
 fn first_of(aim: Least, end: Least) -> Least
     ensures { λ r. ⌜ r ≡ earlier aim (end .minute) ⌝ }
@@ -206,10 +228,11 @@ fn first_of(aim: Least, end: Least) -> Least
 pub fn next_event(kept: &[u32; KEPT], starts: &[u8; SIDE], n: u32, durations: &[u64; SIDE]) -> Event
     ensures { λ e. ⌜ e ≡ eventBy (now (kept .entry)) (now (starts .entry)) n (now (durations .entry)) ⌝ }
 {
-    let first = first_of(aim_of(kept, starts, n), end_of(kept, starts, durations));
+    let end = end_of(kept, starts, durations);
+    let first = first_of(aim_of(kept, starts, n), end);
     Event {
         minute: first.minute,
         point: first.point,
-        set: ending(kept, starts, durations, first.minute),
+        set: ending_from(kept, starts, durations, first.minute, end.minute),
     }
 }

@@ -13,8 +13,8 @@ ghost use Rattle.verdict.specs.Inside.{keptAt};
 use board::Board;
 use board::ROOM;
 use board::UNSOUND;
-use board::is_finished;
-use board::is_sound_with;
+use board::is_finished_by;
+use board::is_sound_by;
 use bounds::bound_kept;
 use history::used;
 use links::Links;
@@ -105,13 +105,13 @@ fn ended_with(plan: Plan, board: Board, links: Links) -> Refusal
     if found.number != ACCEPTED {
         return found;
     }
-    if !is_sound_with(plan, board, links) {
+    if !is_sound_by(board, links) {
         return Refusal {
             number: UNSOUND,
             place: 0,
         };
     }
-    if !is_finished(plan, board) {
+    if !is_finished_by(board, links) {
         return Refusal {
             number: NOT_ALL_DONE,
             place: 0,

@@ -8,7 +8,7 @@ use Rattle.plan.specs.Limits.{mostRecords}
 use Rattle.plan.specs.APlan.{recordsOf}
 use Rattle.links.specs.Inside.{LinksOf}
 use Rattle.plan.proofs.Records.{next-record, last-record, all-of}
-use Rattle.links.proofs.Linking.{linksAs, links-none, links-turn}
+use Rattle.links.proofs.Linking.{linksAs, links-none, other-turn, link-turn}
 use Rattle.links.proofs.links_of.Statement.{statement}
 use Rattle.links.proofs.links_of.Tie as tie
 
@@ -33,6 +33,26 @@ mul-r c = search needs
 element-copy-out-r : tie.Need-element-copy-out-r Inv-loop μ-loop
 element-copy-out-r c = search needs
 
+add-i : tie.Need-add-i Inv-loop μ-loop
+add-i c = search needs
+
+one-if-requires : tie.Need-one-if-requires Inv-loop μ-loop
+one-if-requires c κs = search needs
+
+add-points : tie.Need-add-points Inv-loop μ-loop
+add-points c = search needs
+
+loop-less : tie.Need-loop-less Inv-loop μ-loop
+loop-less c = search needs
+
+loop-again : tie.Need-loop-again Inv-loop μ-loop
+loop-again c =
+    let p = c .before .before .before .before .before .before .before .before .args .t1 in
+    let i = c .before .before .before .before .before .before .loop .inv in
+    let k = c .before .before .before .before .before .before .loop .i in
+    let w = next-record p (i .2) _ (i .1) k (c .before .before .before .before .before .loop-test .taken) in
+    (omega arith, i .1, i .2, omega (arith, i .3, c .one-if .ensures .1), rw (c .one-if .ensures .0) (other-turn (recordsOf p) k _ _ _ (i .4) (w .0) _ (w .1) (c .before .before .if1 .taken)))
+
 cast-c : tie.Need-cast-c Inv-loop μ-loop
 cast-c c = search needs
 
@@ -54,30 +74,16 @@ array-set-from-ends c = search needs
 watched-after-requires : tie.Need-watched-after-requires Inv-loop μ-loop
 watched-after-requires c κs = search needs
 
-one-if-requires : tie.Need-one-if-requires Inv-loop μ-loop
-one-if-requires c κs = search needs
+loop-less-2 : tie.Need-loop-less-2 Inv-loop μ-loop
+loop-less-2 c = search needs
 
-add-points : tie.Need-add-points Inv-loop μ-loop
-add-points c = let i = c .before .before .before .before .before .before .before .before .loop .inv in omega (arith, i .3, c .one-if .ensures .1)
-
-add-i : tie.Need-add-i Inv-loop μ-loop
-add-i c = search needs
-
-loop-less : tie.Need-loop-less Inv-loop μ-loop
-loop-less c = search needs
-
-loop-again : tie.Need-loop-again Inv-loop μ-loop
-loop-again c =
+loop-again-2 : tie.Need-loop-again-2 Inv-loop μ-loop
+loop-again-2 c =
     let p = c .before .before .before .before .before .before .before .before .before .before .args .t1 in
     let i = c .before .before .before .before .before .before .before .before .loop .inv in
     let k = c .before .before .before .before .before .before .before .before .loop .i in
-    let w = next-record p (i .2) _ (i .1) k (c .before .before .before .before .before .before .before .loop-test .taken) in (
-      omega arith,
-      i .1,
-      i .2,
-      omega (arith, i .3, c .one-if .ensures .1),
-      rw (c .one-if .ensures .0, c .before .before .watched-after .ensures, c .before .before .before .end-after .ensures) (links-turn (recordsOf p) k _ _ _ (i .4) (w .0) _ (w .1)),
-    )
+    let w = next-record p (i .2) _ (i .1) k (c .before .before .before .before .before .before .before .loop-test .taken) in
+    (omega arith, i .1, i .2, omega (arith, i .3), rw (c .watched-after .ensures, c .before .end-after .ensures) (link-turn (recordsOf p) k _ _ _ (i .4) (w .0) _ (w .1) (c .before .before .before .before .if1 .left)))
 
 returns : tie.Need-returns Inv-loop μ-loop
 returns c =
@@ -95,6 +101,11 @@ links-of-spec =
     loop-holds
     mul-r
     element-copy-out-r
+    add-i
+    one-if-requires
+    add-points
+    loop-less
+    loop-again
     cast-c
     mul-end
     array-copy-out-end
@@ -102,9 +113,6 @@ links-of-spec =
     mul-ends
     array-set-from-ends
     watched-after-requires
-    one-if-requires
-    add-points
-    add-i
-    loop-less
-    loop-again
+    loop-less-2
+    loop-again-2
     returns)

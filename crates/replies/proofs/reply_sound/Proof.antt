@@ -1,17 +1,18 @@
 -- `replies::reply_sound` meets its contract. Assumes nothing.
 use native.Mathlib.Omega.{arith}
 use borrow.Author.Needs.{needs}
-use mathlib.Core.Path.{sym, _∙_}
+use mathlib.Core.Path.{_∙_}
 use Rattle.plan.specs.APlan.{recordsOf}
 use Rattle.board.proofs.Theorems.Soundness.{sound-means}
+use Rattle.board.proofs.Linked.{finished-known}
 use Rattle.board.proofs.Replying.{nothing-open, something-open, clock-small}
-use Rattle.replies.proofs.Replying.{offer-here, standing-here, reply-finished, reply-stuck, reply-waiting, reply-offers}
+use Rattle.replies.proofs.Replying.{stuck-known, offer-here, standing-here, reply-finished, reply-stuck, reply-waiting, reply-offers}
 use Rattle.replies.specs.declared.Outcome.the-variants.{Stuck, Waiting}
 use Rattle.replies.proofs.reply_sound.Statement.{statement}
 use Rattle.replies.proofs.reply_sound.Tie as tie
 
-is-finished-requires : tie.Need-is-finished-requires
-is-finished-requires c κs = search needs
+is-finished-by-requires : tie.Need-is-finished-by-requires
+is-finished-by-requires c κs = search needs
 
 nothing-more-requires : tie.Need-nothing-more-requires
 nothing-more-requires c κs = search needs
@@ -21,13 +22,13 @@ returns c =
     let s = c .before .before .before in
     let rs = recordsOf (s .args .plan) in
     let b = s .args .board in
-    c .nothing-more .ensures ∙ reply-finished rs b (sym (c .before .before .is-finished .ensures) ∙ c .before .if1 .taken)
+    c .nothing-more .ensures ∙ reply-finished rs b (finished-known rs (s .args .links) (s .pre .links) b _ _ (c .before .before .is-finished-by .ensures) (c .before .if1 .taken))
 
 windows-of-requires : tie.Need-windows-of-requires
 windows-of-requires c κs = search needs
 
-is-stuck-requires : tie.Need-is-stuck-requires
-is-stuck-requires c κs = search needs
+stuck-from-requires : tie.Need-stuck-from-requires
+stuck-from-requires c κs = search needs
 
 list-requires : tie.Need-list-requires
 list-requires c κs = search needs
@@ -38,7 +39,7 @@ returns-2 c =
     let rs = recordsOf (s .args .plan) in
     let b = s .args .board in
     let e = standing-here rs b _ (s .pre .links) _ (c .before .before .before .windows-of .ensures) Stuck in
-    c .list .ensures ∙ e ∙ reply-stuck rs b (sym (c .before .before .before .before .before .is-finished .ensures) ∙ c .before .before .before .before .if1 .left) (sym (c .before .before .is-stuck .ensures) ∙ c .before .if2 .taken)
+    c .list .ensures ∙ e ∙ reply-stuck rs b (finished-known rs (s .args .links) (s .pre .links) b _ _ (c .before .before .before .before .before .is-finished-by .ensures) (c .before .before .before .before .if1 .left)) (stuck-known (s .args .plan) b (s .args .links) (s .pre) _ (c .before .before .before .windows-of .ensures) _ _ (c .before .before .stuck-from .ensures) (c .before .if2 .taken))
 
 list-requires-2 : tie.Need-list-requires-2
 list-requires-2 c κs = search needs
@@ -51,7 +52,7 @@ returns-3 c =
     let w = c .before .before .before .before .before .windows-of .ensures in
     let o = nothing-open rs b _ w (c .before .if3 .taken) in
     let e = standing-here rs b _ (s .pre .links) _ w Waiting in
-    c .list2 .ensures ∙ e ∙ reply-waiting rs b (sym (c .before .before .before .before .before .before .before .is-finished .ensures) ∙ c .before .before .before .before .before .before .if1 .left) (sym (c .before .before .before .before .is-stuck .ensures) ∙ c .before .before .before .if2 .left) o
+    c .list2 .ensures ∙ e ∙ reply-waiting rs b (finished-known rs (s .args .links) (s .pre .links) b _ _ (c .before .before .before .before .before .before .before .is-finished-by .ensures) (c .before .before .before .before .before .before .if1 .left)) (stuck-known (s .args .plan) b (s .args .links) (s .pre) _ w _ _ (c .before .before .before .before .stuck-from .ensures) (c .before .before .before .if2 .left)) o
 
 latest-of-requires : tie.Need-latest-of-requires
 latest-of-requires c κs =
@@ -71,17 +72,17 @@ returns-4 c =
     let w = c .before .before .before .before .before .before .windows-of .ensures in
     let o = something-open rs b _ w (c .before .before .if3 .left) in
     let e = offer-here rs b _ (s .pre .links) _ w _ (c .before .latest-of .ensures) in
-    c .list3 .ensures ∙ e ∙ reply-offers rs b (sym (c .before .before .before .before .before .before .before .before .is-finished .ensures) ∙ c .before .before .before .before .before .before .before .if1 .left) (sym (c .before .before .before .before .before .is-stuck .ensures) ∙ c .before .before .before .before .if2 .left) o
+    c .list3 .ensures ∙ e ∙ reply-offers rs b (finished-known rs (s .args .links) (s .pre .links) b _ _ (c .before .before .before .before .before .before .before .before .is-finished-by .ensures) (c .before .before .before .before .before .before .before .if1 .left)) (stuck-known (s .args .plan) b (s .args .links) (s .pre) _ w _ _ (c .before .before .before .before .before .stuck-from .ensures) (c .before .before .before .before .if2 .left)) o
 
 pub reply-sound-spec : {M : Type 1} → statement M
 reply-sound-spec =
     tie.close
     (tie.spec
-    is-finished-requires
+    is-finished-by-requires
     nothing-more-requires
     returns
     windows-of-requires
-    is-stuck-requires
+    stuck-from-requires
     list-requires
     returns-2
     list-requires-2

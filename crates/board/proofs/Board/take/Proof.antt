@@ -1,9 +1,9 @@
 -- `board::Board::take` meets its contract. Assumes nothing.
 use borrow.Author.Needs.{needs}
-use mathlib.Core.Path.{sym, _∙_}
 use borrow.Author.Tests.{eq-eqb, ne-eqb, not-true, not-false}
 use Rattle.board.specs.Events.{takeOf}
 use Rattle.board.specs.Inside.{takenNext}
+use Rattle.board.proofs.Linked.{sound-known}
 use Rattle.board.proofs.Board.take.Statement.{statement}
 use Rattle.board.proofs.Board.take.Tie as tie
 
@@ -22,8 +22,8 @@ returns c =
 links-of-requires : tie.Need-links-of-requires
 links-of-requires c κs = search needs
 
-is-sound-with-requires : tie.Need-is-sound-with-requires
-is-sound-with-requires c κs = c .links-of .ensures
+is-sound-by-requires : tie.Need-is-sound-by-requires
+is-sound-by-requires c κs = search needs
 
 answer-requires-2 : tie.Need-answer-requires-2
 answer-requires-2 c κs = search needs
@@ -32,17 +32,17 @@ returns-2 : tie.Need-returns-2
 unfolding takeOf
 returns-2 c =
     let e = rw (c .before .before .before .before .before .before .check .ensures) at (eq-eqb _ _ (c .before .before .before .before .if1 .left)) in
-    rw (e, sym (c .before .before .is-sound-with .ensures) ∙ not-true _ (c .before .if2 .taken)) (c .answer2 .ensures)
+    rw (e, sound-known (c .before .before .before .before .before .before .before .before .args .plan) (rw (c .before .before .before .before .before .before .check .ensures) at (c .before .before .before .before .if1 .left)) _ (c .before .before .before .links-of .ensures) (c .before .before .before .before .before .before .before .before .args .self) _ _ (c .before .before .is-sound-by .ensures) (not-true _ (c .before .if2 .taken))) (c .answer2 .ensures)
 
 take-next-requires : tie.Need-take-next-requires
 take-next-requires c κs =
-    record { accepted = rw (c .before .before .before .before .before .check .ensures) at (c .before .before .before .if1 .left); sound = sym (c .before .is-sound-with .ensures) ∙ not-false _ (c .if2 .left); links = c .before .before .links-of .ensures }
+    record { accepted = rw (c .before .before .before .before .before .check .ensures) at (c .before .before .before .if1 .left); sound = sound-known (c .before .before .before .before .before .before .before .args .plan) (rw (c .before .before .before .before .before .check .ensures) at (c .before .before .before .if1 .left)) _ (c .before .before .links-of .ensures) (c .before .before .before .before .before .before .before .args .self) _ _ (c .before .is-sound-by .ensures) (not-false _ (c .if2 .left)); links = c .before .before .links-of .ensures }
 
 returns-3 : tie.Need-returns-3
 unfolding takeOf takenNext
 returns-3 c =
     let e = rw (c .before .before .before .before .before .before .check .ensures) at (eq-eqb _ _ (c .before .before .before .before .if1 .left)) in
-    rw (e, sym (c .before .before .is-sound-with .ensures) ∙ not-false _ (c .before .if2 .left)) (c .take-next .ensures .0)
+    rw (e, sound-known (c .before .before .before .before .before .before .before .before .args .plan) (rw (c .before .before .before .before .before .before .check .ensures) at (c .before .before .before .before .if1 .left)) _ (c .before .before .before .links-of .ensures) (c .before .before .before .before .before .before .before .before .args .self) _ _ (c .before .before .is-sound-by .ensures) (not-false _ (c .before .if2 .left))) (c .take-next .ensures .0)
 
 pub take-spec : {M : Type 1} → statement M
 take-spec =
@@ -52,7 +52,7 @@ take-spec =
     answer-requires
     returns
     links-of-requires
-    is-sound-with-requires
+    is-sound-by-requires
     answer-requires-2
     returns-2
     take-next-requires

@@ -1,25 +1,28 @@
 -- `history::each::every_record` meets its contract. Assumes nothing.
 use borrow.Author.Needs.{needs}
-use mathlib.Core.Path.{sym, _∙_}
+use mathlib.Core.Path.{_≡_, sym, _∙_}
 use borrow.Author.Tests.{not-true, not-false}
 use Prim.Native.Nat.{_-_}
-use lib.ListN.{length-map}
+use lib.ListN.{length, length-map}
+use Rattle.plan.specs.Limits.{mostPoints}
 use Rattle.history.proofs.Walks.{Left, left-start, left-fails, left-turn, left-end}
 use Rattle.history.specs.Inside.{asked}
 use Rattle.history.proofs.each.every_record.Statement.{statement}
 use Rattle.history.proofs.each.every_record.Tie as tie
 
 abbrev Inv-loop : tie.InvT-loop
-Inv-loop clock done minutes ask plan n i₀ i = Left (asked clock done minutes ask) plan n i
+Inv-loop clock done ask plan minutes n i₀ i = (length minutes ≡ mostPoints) × Left (asked clock done minutes ask) plan n i
 
 abbrev μ-loop : tie.MeasureT-loop
-μ-loop clock done minutes ask plan n i₀ i = n - i
+μ-loop clock done ask plan minutes n i₀ i = n - i
 
 used-requires : tie.Need-used-requires Inv-loop μ-loop
 used-requires c κs = search needs
 
 loop-holds : tie.Need-loop-holds Inv-loop μ-loop
-loop-holds c = left-start _ (c .before .args .t1) _ (c .used .ensures) (rw length-map at (c .before .good .0 .1 .1 .1 .0 .1 .0 .1))
+loop-holds c =
+    let s = c .before in
+    (s .good .1 .1 .1 .0 .1 .0 .1, left-start _ (s .args .t1) _ (c .used .ensures) (rw length-map at (s .good .0 .1 .1 .1 .0 .1 .0 .1)))
 
 mul-r : tie.Need-mul-r Inv-loop μ-loop
 mul-r c = search needs
@@ -27,19 +30,16 @@ mul-r c = search needs
 element-copy-out-r : tie.Need-element-copy-out-r Inv-loop μ-loop
 element-copy-out-r c = search needs
 
-minute-at-requires : tie.Need-minute-at-requires Inv-loop μ-loop
-minute-at-requires c κs = search needs
+slice-aggregate-is-so-by : tie.Need-slice-aggregate-is-so-by Inv-loop μ-loop
+slice-aggregate-is-so-by c = search needs
 
-minute-at-requires-2 : tie.Need-minute-at-requires-2 Inv-loop μ-loop
-minute-at-requires-2 c κs = search needs
-
-is-so-requires : tie.Need-is-so-requires Inv-loop μ-loop
-is-so-requires c κs = search needs
+is-so-by-requires : tie.Need-is-so-by-requires Inv-loop μ-loop
+is-so-by-requires c κs = search needs
 
 returns : tie.Need-returns Inv-loop μ-loop
 returns c =
-    let l = c .before .before .before .before .before .before .loop in
-    left-fails _ _ _ (l .i) (l .inv) (c .before .before .before .before .before .loop-test .taken) (sym (rw (c .before .before .minute-at2 .ensures, c .before .before .before .minute-at .ensures) at (c .before .is-so .ensures)) ∙ not-true _ (c .if1 .taken))
+    let l = c .before .before .before .before .before .loop in
+    left-fails _ _ _ (l .i) (l .inv .1) (c .before .before .before .before .loop-test .taken) (sym (c .before .is-so-by .ensures) ∙ not-true _ (c .if1 .taken))
 
 add-i : tie.Need-add-i Inv-loop μ-loop
 add-i c = search needs
@@ -49,11 +49,11 @@ loop-less c = search needs
 
 loop-again : tie.Need-loop-again Inv-loop μ-loop
 loop-again c =
-    let l = c .before .before .before .before .before .before .loop in
-    left-turn _ _ _ (l .i) (l .inv) (c .before .before .before .before .before .loop-test .taken) (sym (rw (c .before .before .minute-at2 .ensures, c .before .before .before .minute-at .ensures) at (c .before .is-so .ensures)) ∙ not-false _ (c .if1 .left))
+    let l = c .before .before .before .before .before .loop in
+    (l .inv .0, left-turn _ _ _ (l .i) (l .inv .1) (c .before .before .before .before .loop-test .taken) (sym (c .before .is-so-by .ensures) ∙ not-false _ (c .if1 .left)))
 
 returns-2 : tie.Need-returns-2 Inv-loop μ-loop
-returns-2 c = left-end _ _ _ _ (c .before .loop .inv) (c .loop-test .left)
+returns-2 c = left-end _ _ _ _ (c .before .loop .inv .1) (c .loop-test .left)
 
 pub every-record-spec : {M : Type 1} → statement M
 every-record-spec =
@@ -65,9 +65,8 @@ every-record-spec =
     loop-holds
     mul-r
     element-copy-out-r
-    minute-at-requires
-    minute-at-requires-2
-    is-so-requires
+    slice-aggregate-is-so-by
+    is-so-by-requires
     returns
     add-i
     loop-less

@@ -6,9 +6,9 @@ use Prim.Native.Nat.{ℕ, zero, suc, _+_, _-_, _*_, _/_, _%_, _^_, _≤_, _<_}
 use native.Mathlib.Omega.{arith}
 use native.Mathlib.Numerals.{add-one}
 use lib.Dec.{eqb, ltb}
-use lib.ListN.{length, take, set, getD, replicate, length-append}
-use lib.Seq.{take-append-seam, set-at, append-snoc, take-suc, length-take-le}
-use borrow.Author.Tests.{lt-ltb, le-ltb, eq-eqb, ne-eqb}
+use lib.ListN.{length, take, drop, set, getD, replicate, length-append, length-set, drop-of-length-le}
+use lib.Seq.{drop-cons, take-append-seam, set-at, append-snoc, take-suc, length-take-le}
+use borrow.Author.Tests.{lt-ltb, le-ltb, eq-eqb, ne-eqb, eqb-true, eqb-false}
 use Rattle.lines.specs.Text.{room, lineOf, digits, decimal, spelled, letters, pieceText, moreText}
 use Rattle.lines.specs.Inside.{textIn, Whole, with, RoomFor}
 use Rattle.lines.specs.declared.Line.{Line}
@@ -61,6 +61,27 @@ room-first l ts us r = record { whole = r .whole; fits = omega (arith, length-ap
 pub fits-on : (ts us : List ℕ) → length ts + length us ≤ room → RoomFor (lineOf ts) us
 fits-on ts us h = record { whole = whole-line ts (omega arith); fits = rw (text-back ts) h }
 
+-- a byte of a text that is to come, and what is to come after it
+module _ (l : Line) (b : ℕ) (rest all : List ℕ) (e : all ≡ b ∷ rest) (r : RoomFor l all) where
+  abbrev here : RoomFor l ((b ∷ []) ++ rest)
+  here = rw e at r
+
+  pub room-here : l .len < room
+  room-here = omega (arith, len-is l (r .whole), here .fits)
+
+  pub room-on-byte : RoomFor (stored l b) rest
+  room-on-byte = rw (byte-more l b (room-first l (b ∷ []) rest here)) (room-after l (b ∷ []) rest here)
+
+  pub with-byte-on : with (stored l b) rest ≡ with l all
+  with-byte-on =
+      ap (λ (k : Line). with k rest) (byte-more l b (room-first l (b ∷ []) rest here)) ∙ with-with l (b ∷ []) rest ∙ ap (λ (ts : List ℕ). with l ts) (sym e)
+
+pub next-of : (xs : List ℕ) (i : ℕ) → i < length xs → drop i xs ≡ getD xs i 0 ∷ drop (i + 1) xs
+next-of xs i h = rw (add-one i) (drop-cons xs i 0 h)
+
+pub none-of : (xs : List ℕ) (i : ℕ) → length xs ≤ i → drop i xs ≡ []
+none-of xs i h = drop-of-length-le xs h
+
 -- ---- the digits of a number
 
 -- room for more digits than there are changes nothing
@@ -86,6 +107,69 @@ one-digit n h = digits-one 19 n h
 
 pub more-digits : (n : ℕ) → 10 ≤ n → n < 2 ^ 64 → decimal n ≡ decimal (n / 10) ++ ((48 + n % 10) ∷ [])
 more-digits n h f = digits-more 19 n h ∙ ap (λ (ds : List ℕ). ds ++ ((48 + n % 10) ∷ [])) (digits-short 18 (n / 10) (omega arith))
+
+-- the digits before the last, none where that is the only one
+abbrev pub front : ℕ → List ℕ
+front n = cond (eqb n 0) [] (decimal n)
+
+pub front-more : (n : ℕ) → n < 2 ^ 64 → front (n / 10) ++ ((48 + n % 10) ∷ []) ≡ decimal n
+front-more n f = go (eqb (n / 10) 0) refl
+  where
+    go : (b : Bool) → eqb (n / 10) 0 ≡ b → cond b [] (decimal (n / 10)) ++ ((48 + n % 10) ∷ []) ≡ decimal n
+    go true e =
+        let small : n < 10 = omega (arith, eqb-true (n / 10) 0 e) in
+        let m : n % 10 ≡ n = omega arith in
+        rw m (sym (one-digit n small))
+    go false e = sym (more-digits n (omega (arith, eqb-false (n / 10) 0 e)) f)
+
+drop-set-here : (xs : List ℕ) (k d : ℕ) → k < length xs → drop k (set xs k d) ≡ d ∷ drop (suc k) xs
+drop-set-here [] k d h = absurd (omega arith)
+drop-set-here (x ∷ xs) zero d h = refl
+drop-set-here (x ∷ xs) (suc k) d h = drop-set-here xs k d (omega arith)
+
+-- the digits so far, of which those of `left` are still to come, in the room from a place on
+pub record Sofar (n : ℕ) (digits : List ℕ) (left from : ℕ) : Type 0 where
+  pub within : from < 20
+  pub long : length digits ≡ 20
+  pub low : left < 10 ^ from
+  pub small : left < 2 ^ 64
+  pub same : front left ++ drop from digits ≡ decimal n
+
+pub first-digit : (n : ℕ) → n < 2 ^ 64 → Sofar n (set (replicate 20 0) 19 (48 + n % 10)) (n / 10) 19
+first-digit n f = record { within = omega arith; long = refl; low = omega arith; small = omega arith; same = front-more n f }
+
+module _ (n : ℕ) (digits : List ℕ) (left from : ℕ) (w : Sofar n digits left from) where
+  pub more-left : (left ≡ 0 → ⊥) → 1 ≤ from
+  more-left h = go from (w .low)
+    where
+      go : (k : ℕ) → left < 10 ^ k → 1 ≤ k
+      go zero l = absurd (h (omega arith))
+      go (suc k) l = omega arith
+
+  pub next-digit : (left ≡ 0 → ⊥) → Sofar n (set digits (from - 1) (48 + left % 10)) (left / 10) (from - 1)
+  next-digit h =
+      let one = more-left h in
+      let k : suc (from - 1) ≡ from = omega arith in
+      let whole : decimal left ≡ front left = rw (ne-eqb left 0 h) in
+      let d = drop-set-here digits (from - 1) (48 + left % 10) (omega (arith, w .long, w .within)) in
+      record {
+        within = omega (arith, w .within);
+        long = length-set digits (from - 1) (48 + left % 10) ∙ w .long;
+        low = lower from one (w .low);
+        small = omega (arith, w .small);
+        same =
+            ap (λ (xs : List ℕ). front (left / 10) ++ xs) (d ∙ ap (λ (m : ℕ). (48 + left % 10) ∷ drop m digits) k)
+            ∙ sym (append-assoc (front (left / 10)) ((48 + left % 10) ∷ []) (drop from digits))
+            ∙ ap (λ (xs : List ℕ). xs ++ drop from digits) (front-more left (w .small) ∙ whole)
+            ∙ w .same;
+      }
+    where
+      lower : (m : ℕ) → 1 ≤ m → left < 10 ^ m → left / 10 < 10 ^ (m - 1)
+      lower zero o l = absurd (omega arith)
+      lower (suc m) o l = let z : suc m - 1 ≡ m = omega arith in rw z (omega arith)
+
+  pub all-digits : left ≡ 0 → drop from digits ≡ decimal n
+  all-digits e = rw e at (w .same)
 
 digit-more : (b : Bool) (ds : List ℕ) (d k : ℕ) → length ds ≤ k → length (cond b [] ds ++ (d ∷ [])) ≤ suc k
 digit-more true ds d k h = omega arith

@@ -2,9 +2,10 @@
 use mathlib.Core.Path.{_≡_}
 use mathlib.Core.List.{List, _++_}
 use Prim.Native.Nat.{ℕ, _+_, _≤_}
-use lib.ListN.{length, take}
-use Rattle.lines.specs.Text.{room, lineOf}
+use lib.ListN.{length, take, drop}
+use Rattle.lines.specs.Text.{room, lineOf, decimal}
 use Rattle.lines.specs.declared.Line.{Line}
+use Rattle.lines.specs.declared.Digits.{Digits}
 
 -- a line's text
 abbrev pub textIn : Line → List ℕ
@@ -23,3 +24,9 @@ with l ts = lineOf (textIn l ++ ts)
 pub record RoomFor (l : Line) (ts : List ℕ) : Type 0 where
   pub whole : Whole l
   pub fits : length (textIn l) + length ts ≤ room
+
+-- the digits of n stand at the end of their room, from a place on
+pub record Spelt (n : ℕ) (d : Digits) : Type 0 where
+  pub within : d .from ≤ 20
+  pub long : length (d .digits) ≡ 20
+  pub same : drop (d .from) (d .digits) ≡ decimal n

@@ -3,10 +3,10 @@
 // crates that print: `line_of` has a `requires`, which every caller is proved to meet.
 ghost use mathlib.Core.Path.{_≡_};
 ghost use mathlib.Core.List.{[], _∷_, _++_};
-ghost use Prim.Native.Nat.{_≤_};
+ghost use Prim.Native.Nat.{_+_, _%_, _≤_};
 ghost use lib.ListN.{length, take};
 ghost use Rattle.lines.specs.Text.{room, lineOf, letters, decimal, pieceText, moreText, textOf};
-ghost use Rattle.lines.specs.Inside.{with, RoomFor};
+ghost use Rattle.lines.specs.Inside.{with, RoomFor, Spelt};
 
 mod shapes;
 
@@ -41,6 +41,15 @@ pub enum Piece {
     Below(u64),
 }
 
+// No number of 64 bits has more digits.
+const DIGITS: usize = 20;
+
+// The digits of a number, from a place on.
+struct Digits {
+    from: usize,
+    digits: [u8; DIGITS],
+}
+
 // An empty line.
 pub fn blank() -> Line
     ensures { λ l. ⌜ l ≡ lineOf [] ⌝ }
@@ -69,10 +78,42 @@ fn with_word(line: Line, word: u64) -> Line
     requires { ⌜ RoomFor line (letters word) ⌝ }
     ensures { λ l. ⌜ l ≡ with line (letters word) ⌝ }
 {
-    if word == 0 {
-        return line;
+    let mut next = line;
+    let mut left = word;
+    while left != 0 {
+        let at = next.len;
+        next.bytes[at] = (left % 256) as u8;
+        next.len = at + 1;
+        left = left / 256;
     }
-    with_word(with_byte(line, (word % 256) as u8), word / 256)
+    next
+}
+
+// The last decimal digit of a number, as a character.
+fn last_digit(n: u64) -> u8
+    ensures { λ d. ⌜ d ≡ 48 + n % 10 ⌝ }
+{
+    48 + ((n % 10) as u8)
+}
+
+// The decimal digits of a number, at the end of the room.
+fn digits_of(n: u64) -> Digits
+    ensures { λ d. ⌜ Spelt n d ⌝ }
+{
+    let mut digits = [0u8; DIGITS];
+    let mut left = n;
+    let mut from = DIGITS - 1;
+    digits[from] = last_digit(left);
+    left = left / 10;
+    while left != 0 {
+        from -= 1;
+        digits[from] = last_digit(left);
+        left = left / 10;
+    }
+    Digits {
+        from: from,
+        digits: digits,
+    }
 }
 
 // The line with a number more, in decimal.
@@ -80,11 +121,16 @@ fn with_number(line: Line, n: u64) -> Line
     requires { ⌜ RoomFor line (decimal n) ⌝ }
     ensures { λ l. ⌜ l ≡ with line (decimal n) ⌝ }
 {
-    if n < 10 {
-        return with_byte(line, 48 + (n as u8));
+    let spelt = digits_of(n);
+    let mut next = line;
+    let mut i = spelt.from;
+    while i < DIGITS {
+        let at = next.len;
+        next.bytes[at] = spelt.digits[i];
+        next.len = at + 1;
+        i += 1;
     }
-    let front = with_number(line, n / 10);
-    with_byte(front, 48 + ((n % 10) as u8))
+    next
 }
 
 // The line with a piece more.

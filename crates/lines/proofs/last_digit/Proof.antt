@@ -1,0 +1,17 @@
+-- `lines::last_digit` meets its contract. Assumes nothing.
+use native.Mathlib.Omega.{arith}
+use borrow.Author.Needs.{needs}
+use Rattle.lines.proofs.last_digit.Statement.{statement}
+use Rattle.lines.proofs.last_digit.Tie as tie
+
+cast-result : tie.Need-cast-result
+cast-result c = search needs
+
+add-result : tie.Need-add-result
+add-result c = search needs
+
+returns : tie.Need-returns
+returns c = omega arith
+
+pub last-digit-spec : {M : Type 1} → statement M
+last-digit-spec = tie.close (tie.spec cast-result add-result returns)

@@ -15,6 +15,7 @@ pub mod pack;
 pub mod plan;
 pub mod plan_test;
 pub mod probe;
+pub mod rooms;
 pub mod text;
 pub mod verdict;
 pub mod worst;

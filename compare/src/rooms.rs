@@ -232,9 +232,19 @@ fn ring(draw: &mut Draw) -> Rooms {
         list[key] = met[0] as u16;
     }
     let from = draw.pick(&met);
-    list[BUCKETS + from] = draw.pick(&met) as u16;
+    list[BUCKETS + from] = match draw.below(2) {
+        0 => from as u16,
+        _ => draw.pick(&met) as u16,
+    };
     if draw.one_in(3) {
         rooms.kept[COUNTS + key] = 1 + draw.below(3) as u32;
+    }
+    // Counts so high that they tell how many entries a walk has read.
+    for entry in met {
+        let held = AsStated.held(&AsStated.row(&rooms.rows, entry));
+        if held != key && draw.one_in(2) {
+            rooms.kept[COUNTS + held] = (RECORDS - 2 + draw.below(5)) as u32;
+        }
     }
     rooms
 }
@@ -263,6 +273,16 @@ fn links(draw: &mut Draw) -> Rooms {
     }
     if draw.one_in(2) {
         rooms.links[1] = draw.next() as u32 & draw.next() as u32;
+    }
+    if draw.one_in(3) {
+        // Nothing open, and drives that take longer than a plan's can.
+        for point in AsStated.windows(&rooms).opens {
+            rooms.kept[COUNTS + point] = 1;
+        }
+        for end in rooms.links[2..].chunks_mut(3) {
+            end[2] = 50_000 + draw.below(200_000) as u32;
+        }
+        return rooms;
     }
     for end in rooms.links[2..].chunks_mut(3) {
         if draw.one_in(3) {
@@ -306,6 +326,28 @@ fn late(draw: &mut Draw) -> Rooms {
     rooms
 }
 
+/// A day as it stands, but near the largest minutes; some rows go up and down.
+fn shifted(draw: &mut Draw) -> Rooms {
+    let mut rooms = mid_day(draw);
+    // Past 100,000 before the largest every board with an open point is stuck.
+    let back = draw.pick(&[0, 10, 99_999, 100_000, 100_001, 100_010, 100_100, 101_000]);
+    let by = NEVER - rooms.clock() - back;
+    for part in [LOWS, RUNS, HIGHS, MINUTES] {
+        for place in &mut rooms.kept[part..part + POINTS] {
+            *place = place.saturating_add(by);
+        }
+    }
+    rooms.kept[CLOCK] += by;
+    rooms.kept[LAST] = NEVER - draw.below(4) as u32;
+    for row in rooms.rows.chunks_mut(WIDTH) {
+        if row[0] == 3 && draw.one_in(2) {
+            row[3] += any(draw, 20);
+            row[4] += any(draw, 20);
+        }
+    }
+    rooms
+}
+
 /// Rows that no plan has: numbers past 32 bits, points that are the plan's only modulo 32, kinds that are none.
 fn wide_rows(draw: &mut Draw) -> Rooms {
     let mut rooms = mid_day(draw);
@@ -335,7 +377,7 @@ fn small(draw: &mut Draw) -> Rooms {
     for end in rooms.links[2..].chunks_mut(3) {
         end[0] = draw.below(36) as u32;
         end[1] = draw.below(6) as u32;
-        end[2] = end[1] + draw.below(12) as u32;
+        end[2] = end[1] + 4 + draw.below(30) as u32;
     }
     for point in 0..POINTS {
         rooms.kept[COUNTS + point] = draw.below(8).saturating_sub(5) as u32;
@@ -350,8 +392,8 @@ fn small(draw: &mut Draw) -> Rooms {
     rooms.kept[DONE] = draw.next() as u32 & draw.next() as u32;
     rooms.kept[LAST] = draw.below(9) as u32;
     let rows = draw.pick(&[3, 20, 200, RECORDS]);
-    let ends = draw.pick(&[2, 8, 60]);
     for list in [&mut rooms.into, &mut rooms.out, &mut rooms.ends] {
+        let ends = draw.pick(&[2, 2, 8, 8, 60]);
         for place in list.iter_mut() {
             let on = draw.below(rows) as u16;
             *place = if draw.one_in(ends) {
@@ -371,7 +413,7 @@ fn small(draw: &mut Draw) -> Rooms {
 /// How rooms are made.
 type Made = (&'static str, fn(&mut Draw) -> Rooms);
 
-const MADE: [Made; 12] = [
+const MADE: [Made; 13] = [
     ("zeros", zeros),
     ("ones", ones),
     ("numbers of any size", noise),
@@ -382,6 +424,7 @@ const MADE: [Made; 12] = [
     ("a list that never ends", rings),
     ("links that no plan has", links),
     ("minutes near the largest", late),
+    ("a day near the largest minutes", shifted),
     ("rows that no plan has", wide_rows),
     ("small numbers", small),
 ];
@@ -395,17 +438,20 @@ pub fn aimed(draw: &mut Draw, rooms: &Rooms) -> Vec<u8> {
     let runs = |&point: &usize| AsStated.ends_running(rooms, point);
     let running: Vec<usize> = (0..POINTS).filter(runs).collect();
     let mut minutes = vec![rooms.clock(), latest, latest.max(rooms.clock())];
+    let mut runs_out = NEVER;
     minutes.extend(windows.opens.iter().map(|&point| windows.lows[point]));
     for &point in &running {
         let end = AsStated.end(&rooms.links, point);
         let start = AsStated.start_of(rooms, point);
         let at = |after: u32| (start + u64::from(after)).min(u64::from(NEVER)) as u32;
         minutes.extend([at(end.shortest), at(end.longest)]);
+        runs_out = runs_out.min(at(end.longest));
     }
     let (one, two) = (draw.pick(&minutes), draw.pick(&minutes));
     let minute = match draw.below(3) {
         0 => draw.between(i64::from(one), i64::from(two)) as u32,
-        _ => one.max(rooms.clock()),
+        1 => one.max(rooms.clock()),
+        _ => one.min(runs_out).max(rooms.clock()),
     };
     let due = |point: usize| !AsStated.not_late(rooms, minute, 0, point);
     let mut set = 0;
@@ -447,6 +493,28 @@ fn spoiled(draw: &mut Draw, mut event: Vec<u8>) -> Vec<u8> {
     event
 }
 
+/// An open point before its Low, or past the latest, also both.
+fn untimely(draw: &mut Draw, rooms: &Rooms) -> Vec<u8> {
+    let windows = AsStated.windows(rooms);
+    let mut event = aimed(draw, rooms);
+    if windows.opens.is_empty() {
+        return event;
+    }
+    let point = draw.pick(&windows.opens);
+    let latest = i64::from(AsStated.latest(rooms, &windows));
+    let low = i64::from(windows.lows[point]);
+    let minute = match draw.below(3) {
+        0 => low - 1,
+        1 => latest + 1,
+        _ => draw.between(latest + 1, low - 1),
+    };
+    let minute = minute.clamp(0, i64::from(NEVER)) as u32;
+    event[..4].copy_from_slice(&minute.to_le_bytes());
+    event[4] = point as u8;
+    event[8..12].fill(0);
+    event
+}
+
 /// A point that is not open, at a minute at which others might be done.
 fn not_open(draw: &mut Draw, rooms: &Rooms) -> Vec<u8> {
     let opens = AsStated.windows(rooms).opens;
@@ -468,7 +536,8 @@ fn event(draw: &mut Draw, rooms: &Rooms) -> Vec<u8> {
             let event = aimed(draw, rooms);
             spoiled(draw, event)
         }
-        8..10 => not_open(draw, rooms),
+        8 => not_open(draw, rooms),
+        9 => untimely(draw, rooms),
         10 => (0..16).map(|_| any(draw, 8) as u8).collect(),
         _ => {
             let length = draw.pick(&[0, 1, 4, 5, 8, 15, 17, 32, 255, 256, 4_000]);
@@ -483,12 +552,18 @@ fn case(draw: &mut Draw, made: Made) -> Case {
     let (what, make) = made;
     let rooms = make(draw);
     let mut at = rooms.clone();
-    let count = 3 + draw.below(10);
+    let mut left = 3 + draw.below(10);
     let mut events = Vec::new();
-    while events.len() < count {
+    while left > 0 {
         let event = event(draw, &at);
-        AsStated.take(&mut at, &event);
+        let (number, _) = AsStated.take(&mut at, &event);
         events.push(event);
+        // Nothing more comes of a board that is finished or stuck.
+        left = if number == 21 || number == 22 {
+            left / 2
+        } else {
+            left - 1
+        };
     }
     Case {
         what,
@@ -562,7 +637,7 @@ pub fn answers(by: &(impl Equation + ?Sized), input: &[u8]) -> Vec<u8> {
 // ---- what came up
 
 /// Everything that has to come up.
-pub const KEYS: [&str; 46] = [
+pub const KEYS: [&str; 45] = [
     "taken",
     "taken, some points of a set",
     "taken, nothing open",
@@ -606,7 +681,6 @@ pub const KEYS: [&str; 46] = [
     "a link from a number past a byte",
     "more points than 32",
     "no points",
-    "a latest below 0",
     "begun",
     "begun from a file that is refused",
 ];
@@ -662,7 +736,10 @@ impl Count {
         if reply[0] == 0 {
             return;
         }
-        for place in reply[2..].chunks(2) {
+        for (point, place) in reply[2..].chunks(2).enumerate() {
+            let asked = place == [2, 0] && rooms.kept[COUNTS + point] != 0;
+            let stopped = asked && goes_on(&rooms.out, point);
+            self.add_if(stopped, "a walk for a holder stopped by its fuel");
             self.add(match place {
                 [0, _] => "done",
                 [1, _] => "watched",
@@ -674,9 +751,6 @@ impl Count {
         }
         self.add_if(rooms.points() > 32, "more points than 32");
         self.add_if(rooms.points() == 0, "no points");
-        let windows = AsStated.windows(rooms);
-        let below = !windows.opens.is_empty() && windows.high < 100_000;
-        self.add_if(below, "a latest below 0");
     }
 
     /// Counts an event by its number and the rooms before it.
@@ -701,11 +775,6 @@ impl Count {
             29 => "29",
             _ => "30",
         });
-        let goes_on = |list: &[u16], point: usize| goes_on(list, point);
-        if number == 28 && point < POINTS && rooms.kept[COUNTS + point] != 0 && record == 0 {
-            let stopped = AsStated.foremans(rooms, point) && goes_on(&rooms.out, point);
-            self.add_if(stopped, "a walk for a holder stopped by its fuel");
-        }
         if number != 0 {
             return;
         }

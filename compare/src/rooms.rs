@@ -2,7 +2,7 @@
 //! differ. What is read and written is in ROOMS.md.
 
 use crate::draw::Draw;
-use crate::events;
+use crate::events::{self, Style};
 use crate::plans::{self, Sizes};
 use oracle::plan::{Plan, ROOM as RECORDS};
 use oracle::rooms::{
@@ -373,7 +373,8 @@ fn small(draw: &mut Draw) -> Rooms {
     let mut rooms = Rooms::zeros();
     let points = 1 + draw.below(40);
     rooms.links[0] = points as u32;
-    rooms.links[1] = draw.next() as u32 & draw.next() as u32;
+    let fewer = draw.pick(&[0, u32::MAX]);
+    rooms.links[1] = draw.next() as u32 & (draw.next() as u32 | fewer);
     for end in rooms.links[2..].chunks_mut(3) {
         end[0] = draw.below(36) as u32;
         end[1] = draw.below(6) as u32;
@@ -389,7 +390,7 @@ fn small(draw: &mut Draw) -> Rooms {
         rooms.kept[CALLS + point] = draw.below(9) as u32;
     }
     rooms.kept[CLOCK] = draw.below(14) as u32;
-    rooms.kept[DONE] = draw.next() as u32 & draw.next() as u32;
+    rooms.kept[DONE] = draw.next() as u32 & (draw.next() as u32 | fewer);
     rooms.kept[LAST] = draw.below(9) as u32;
     let rows = draw.pick(&[3, 20, 200, RECORDS]);
     for list in [&mut rooms.into, &mut rooms.out, &mut rooms.ends] {
@@ -611,6 +612,7 @@ pub fn batch(seed: u64, number: u64) -> Vec<Case> {
         let times = match made.0 {
             "zeros" | "ones" => usize::from(number % 8 == 0),
             "a list that never ends" => 1,
+            "small numbers" => 4,
             _ => 2,
         };
         for _ in 0..times {
@@ -620,6 +622,42 @@ pub fn batch(seed: u64, number: u64) -> Vec<Case> {
     cases.push(beginning(&mut draw));
     cases.push(beginning(&mut draw));
     cases
+}
+
+/// The cases that are stored as `stdin` of our program: the haul begun in rooms of ones and its day with refused events between; the
+/// same rooms with a ring in a list, and a count that tells how long the walk was; links from past point 31 in a plan of 40
+/// points; and rooms of zeros.
+pub fn stored() -> Vec<Case> {
+    let plan = plans::haul_as_it_stands();
+    let mut draw = Draw::new(1, 0);
+    let day = events::stream(&mut draw, &plan, Style::Mixed);
+    let mut events: Vec<Vec<u8>> = day.chunks(16).map(<[u8]>::to_vec).collect();
+    events.push(Vec::new());
+    let case = |what: &'static str, rooms: Rooms| Case {
+        what,
+        rooms,
+        file: Vec::new(),
+        events: events.clone(),
+    };
+    let begun = Case {
+        file: plan.to_bytes(),
+        ..case("the haul", Rooms::from_bytes(&[255; BYTES]))
+    };
+    let mut ringed = AsStated.filled(&plan);
+    let first = ringed.into[0];
+    ringed.into[BUCKETS + usize::from(first)] = first;
+    ringed.kept[COUNTS + 2] = RECORDS as u32 + 1;
+    ringed.kept[COUNTS + 3] = RECORDS as u32 + 1;
+    let mut far = AsStated.filled(&plan);
+    far.links[0] = 40;
+    far.links[1] |= 1 << 31;
+    far.links[2 + 3 * 31] = 32;
+    vec![
+        begun,
+        case("a ring", ringed),
+        case("far links", far),
+        case("zeros", Rooms::zeros()),
+    ]
 }
 
 /// What the programs read.

@@ -19,7 +19,7 @@ struct Batch {
 }
 
 /// In so many batches every wrong equation has to be found.
-const BATCHES: u64 = 60;
+const BATCHES: u64 = 100;
 
 fn batches() -> &'static [Batch] {
     static ALL: OnceLock<Vec<Batch>> = OnceLock::new();
@@ -40,14 +40,33 @@ fn batches() -> &'static [Batch] {
 
 #[test]
 fn all_comes_up() {
-    for seed in 1..4 {
+    for seed in 1..3 {
         let count = Count::default();
-        for number in 0..BATCHES {
+        for number in 0..60 {
             for case in rooms::batch(seed, number) {
                 count.case(&case);
             }
         }
         assert_eq!(count.missing(), Vec::<&str>::new(), "seed {seed}");
+    }
+}
+
+/// What is stored of our program is what is said here, and answered by the equation.
+#[test]
+fn the_stored_cases_are_these() {
+    let stored = |name: &str| {
+        let folder = concat!(env!("CARGO_MANIFEST_DIR"), "/../crates/rooms_probe/");
+        std::fs::read(format!("{folder}{name}")).unwrap()
+    };
+    let cases = rooms::stored();
+    let input = rooms::input(&cases);
+    assert!(stored("stdin") == input);
+    let right = answers(&AsStated, &input);
+    assert_eq!(rooms::difference(&cases, &stored("stdout"), &right), None);
+    let count = Count::default();
+    cases.iter().for_each(|case| count.case(case));
+    for key in ["taken", "begun", "a walk of `into` stopped by its fuel"] {
+        assert!(count.of(key) > 0, "{key}");
     }
 }
 

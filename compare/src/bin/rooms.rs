@@ -1,9 +1,9 @@
 //! Compares what our engine answers over rooms of any content with the equation: rooms SEED SECONDS OURS THEIRS [EMULATOR WORDS].
-//! Started by compare/rooms from the folder above.
+//! Started by compare/rooms from the folder above. `rooms stored` writes what crates/rooms_probe/stdin has.
 
 use compare::programs::{self, Both, Way, ENDED_WELL};
 use compare::rooms::{self, Case, Count, KEYS};
-use std::io;
+use std::io::{self, Write};
 use std::process::ExitCode;
 use std::time::{Duration, Instant};
 
@@ -16,6 +16,13 @@ const KEPT: &str = "compare/kept";
 
 fn main() -> ExitCode {
     let words: Vec<String> = std::env::args().collect();
+    if words[1..] == ["stored"] {
+        let input = rooms::input(&rooms::stored());
+        return match io::stdout().write_all(&input) {
+            Ok(()) => ExitCode::SUCCESS,
+            Err(_) => ExitCode::FAILURE,
+        };
+    }
     let numbers = match &words[..] {
         [_, seed, seconds, _, _, ..] => seed.parse().ok().zip(seconds.parse().ok()),
         _ => None,

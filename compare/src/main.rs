@@ -144,7 +144,10 @@ fn compare(pairs: &[Both], seed: u64, time: Duration) -> io::Result<bool> {
         println!("{streams} streams to both engines, from the fresh board");
     }
     let counts = shared.counts.into_inner().expect("no worker fails");
-    let (missing, strange) = count::print(&names, &counts);
+    let (mut missing, strange) = count::print(&names, &counts);
+    if names.contains(&"probe") && names.len() > 1 && streams == 0 {
+        missing.push("a stream to both engines".to_string());
+    }
     for key in &missing {
         println!("never came up: {key}");
     }

@@ -525,8 +525,12 @@ fn untimely(draw: &mut Draw, rooms: &Rooms) -> Vec<u8> {
 fn not_open(draw: &mut Draw, rooms: &Rooms) -> Vec<u8> {
     let opens = AsStated.windows(rooms).opens;
     let shut: Vec<usize> = (0..POINTS).filter(|q| !opens.contains(q)).collect();
+    let held = |&q: &usize| AsStated.holder(rooms, q) != 0;
+    let held: Vec<usize> = shut.iter().copied().filter(held).collect();
     let mut event = aimed(draw, rooms);
-    if !shut.is_empty() {
+    if !held.is_empty() && draw.one_in(2) {
+        event[4] = draw.pick(&held) as u8;
+    } else if !shut.is_empty() {
         event[4] = draw.pick(&shut) as u8;
     }
     if draw.one_in(2) {

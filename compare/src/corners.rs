@@ -40,19 +40,21 @@ pub fn of_event(plan: &Plan, at: &Board, event: &[u8], number: u32) -> Option<&'
 /// So many events of an input are looked at.
 const EVENTS: usize = 200;
 
+/// The plan and the events of an input of the printing programs, where the plan is accepted.
+pub fn parts(input: &[u8]) -> Option<(Plan, &[u8])> {
+    let mark = input.chunks(RECORD).position(|record| record == MARK)?;
+    let plan = plan::read(&input[..mark * RECORD]).ok()?;
+    Some((plan, &input[(mark + 1) * RECORD..]))
+}
+
 /// What comes up in an input of the printing programs.
 pub fn of_input(input: &[u8]) -> Vec<&'static str> {
-    let mark = input.chunks(RECORD).position(|record| record == MARK);
-    let Some(mark) = mark else {
-        return Vec::new();
-    };
-    let Ok(plan) = plan::read(&input[..mark * RECORD]) else {
+    let Some((plan, events)) = parts(input) else {
         return Vec::new();
     };
     let mut found = Vec::new();
     let mut at = Board::fresh();
-    let events = input[(mark + 1) * RECORD..].chunks_exact(RECORD);
-    for event in events.take(EVENTS) {
+    for event in events.chunks_exact(RECORD).take(EVENTS) {
         let ((number, _), next) = event::take(&plan, &at, event);
         found.extend(of_event(&plan, &at, event, number));
         at = next;

@@ -22,6 +22,7 @@ pub mod printed;
 pub mod programs;
 pub mod rare;
 pub mod requests;
+pub mod rooms;
 pub mod sheets;
 pub mod shut;
 pub mod smaller;

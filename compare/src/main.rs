@@ -84,6 +84,8 @@ struct Shared {
     next_batch: AtomicU64,
     compared: AtomicU64,
     stop: AtomicBool,
+    /// Streams that both engines were given.
+    both_engines: AtomicU64,
     /// One for each name.
     counts: Mutex<Vec<Count>>,
 }
@@ -99,6 +101,7 @@ fn compare(pairs: &[Both], seed: u64, time: Duration) -> io::Result<bool> {
         next_batch: AtomicU64::new(0),
         compared: AtomicU64::new(0),
         stop: AtomicBool::new(false),
+        both_engines: AtomicU64::new(0),
         counts: Mutex::new(vec![Count::default(); pairs.len()]),
     };
     let workers = thread::available_parallelism().map_or(1, usize::from);
@@ -136,8 +139,15 @@ fn compare(pairs: &[Both], seed: u64, time: Duration) -> io::Result<bool> {
     let rate = compared as f64 / seconds;
     println!("{compared} inputs the same, {seconds:.0} seconds, {rate:.0} a second");
     let names: Vec<&str> = pairs.iter().map(|both| both.name.as_str()).collect();
+    let streams = shared.both_engines.into_inner();
+    if ["probe", "offers"].iter().all(|name| names.contains(name)) {
+        println!("{streams} streams to both engines, from the fresh board");
+    }
     let counts = shared.counts.into_inner().expect("no worker fails");
-    let (missing, strange) = count::print(&names, &counts);
+    let (mut missing, strange) = count::print(&names, &counts);
+    if names.contains(&"probe") && names.len() > 1 && streams == 0 {
+        missing.push("a stream to both engines".to_string());
+    }
     for key in &missing {
         println!("never came up: {key}");
     }
@@ -164,16 +174,25 @@ fn work(pairs: &[Both], shared: &Shared) -> io::Result<Option<Found>> {
         let batch = shared.next_batch.fetch_add(1, Ordering::Relaxed);
         let mut draw = Draw::new(shared.seed, batch);
         let mut counts = vec![Count::default(); pairs.len()];
-        // The probe takes requests, the printing programs sheets.
+        // The probe takes requests, the printing programs sheets, and the probe their streams as well.
+        let mut again = None;
         for probe in [false, true] {
             let concerned = |both: &&Both| (both.name == "probe") == probe;
             if !pairs.iter().any(|both| concerned(&both)) {
                 continue;
             }
             let inputs = if probe {
-                requests::batch(&mut draw, batch)
+                let mut inputs = requests::batch(&mut draw, batch);
+                inputs.extend(again.take());
+                inputs
             } else {
-                inputs::batch(&mut draw, batch)
+                let inputs = inputs::batch(&mut draw, batch);
+                let (input, streams) = requests::again(&inputs);
+                again = input;
+                if pairs.iter().any(|both| both.name == "probe") {
+                    shared.both_engines.fetch_add(streams, Ordering::Relaxed);
+                }
+                inputs
             };
             for (k, input) in inputs.into_iter().enumerate() {
                 if shared.stop.load(Ordering::Relaxed) {

@@ -1,6 +1,7 @@
 //! Draws requests for the probe (PROBE.md): plans, boards, events and buffers of any content, boards one clause off sound
 //! above all.
 
+use crate::corners;
 use crate::damage;
 use crate::draw::Draw;
 use crate::events;
@@ -983,6 +984,35 @@ fn streams(draw: &mut Draw) -> Vec<Input> {
         });
     }
     inputs
+}
+
+/// The streams of the printing programs' inputs, which run on the engine that keeps counts, for the plain engine too: each of an
+/// accepted plan, from the fresh board, as far as the room goes; and how many they are. Not more than so many bytes of them.
+pub fn again(inputs: &[Input]) -> (Option<Input>, u64) {
+    const MOST: usize = 300_000;
+    let mut requests = Requests::default();
+    let mut streams = 0;
+    for input in inputs {
+        let Some((plan, events)) = corners::parts(&input.bytes) else {
+            continue;
+        };
+        let length = events.len().min(STREAM_ROOM / SAID * RECORD);
+        if events.is_empty() || requests.0.len() + plan.records() * RECORD + 2 * length > MOST {
+            continue;
+        }
+        requests.plan(&plan);
+        requests.board(&Board::fresh());
+        requests.buffer(&events[..length], length, 0);
+        let room = SAID * (length / RECORD);
+        requests.ask(STREAM, [0; 3], [room as u32, 0, 0]);
+        requests.call(REPLY);
+        streams += 1;
+    }
+    let input = (streams > 0).then(|| Input {
+        what: "the printing programs' streams".to_string(),
+        bytes: requests.0,
+    });
+    (input, streams)
 }
 
 /// Adds points or ordinary records, or doubles a wait, until there is one too many.

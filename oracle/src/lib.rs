@@ -1,5 +1,6 @@
 //! An independent program for the rules of document 01 and the requests of document 02, written from those alone, to be
-//! compared byte for byte with the proved one. All arithmetic is signed, in `i64`.
+//! compared byte for byte with the proved one. All arithmetic is signed, in `i64`. Only `rooms`, of which the documents say
+//! nothing, is from elsewhere: its head says from where.
 
 pub mod board;
 pub mod by_value;
@@ -15,6 +16,7 @@ pub mod pack;
 pub mod plan;
 pub mod plan_test;
 pub mod probe;
+pub mod rooms;
 pub mod text;
 pub mod verdict;
 pub mod worst;

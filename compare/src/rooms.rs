@@ -151,9 +151,9 @@ fn noise(draw: &mut Draw) -> Rooms {
     for place in lists.into_iter().flatten() {
         *place = any(draw, 16) as u16;
     }
-    let longs = draw.pick(&[3, 8, 34, 64]);
+    let longs = draw.pick(&[3, 8, 20, 32]);
     for place in &mut rooms.rows {
-        *place = any(draw, longs);
+        *place = any(draw, longs) as u32;
     }
     rooms
 }
@@ -189,7 +189,7 @@ fn change(draw: &mut Draw, rooms: &mut Rooms) {
         }
         _ => {
             let place = &mut rooms.rows[draw.below(WIDTH * rows)];
-            *place = other(draw, *place, 64);
+            *place = other(draw, u64::from(*place), 32) as u32;
         }
     }
 }
@@ -346,14 +346,14 @@ fn shifted(draw: &mut Draw) -> Rooms {
     rooms.kept[LAST] = NEVER - draw.below(4) as u32;
     for row in rooms.rows.chunks_mut(WIDTH) {
         if row[0] == 3 && draw.one_in(2) {
-            row[3] += any(draw, 20);
-            row[4] += any(draw, 20);
+            row[3] += any(draw, 20) as u32;
+            row[4] += any(draw, 20) as u32;
         }
     }
     rooms
 }
 
-/// Rows that no plan has: numbers past 32 bits, points that are the plan's only modulo 32, kinds that are none.
+/// Rows that no plan has: numbers past 31 bits, points that are the plan's only modulo 32, kinds that are none.
 fn wide_rows(draw: &mut Draw) -> Rooms {
     let mut rooms = mid_day(draw);
     let rows = used(&rooms);
@@ -364,10 +364,10 @@ fn wide_rows(draw: &mut Draw) -> Rooms {
         }
         let field = draw.below(WIDTH);
         row[field] = match (field, draw.below(4)) {
-            (_, 0) => other(draw, row[field], 64),
-            (0, _) => draw.pick(&[0, 1, 2, 3, 3, 4, 4, 5, 259, 260, 1 << 32, (1 << 32) + 3]),
-            (3 | 4, _) => row[field] + ((draw.below(3) as u64 + 1) << draw.pick(&[31, 32, 40])),
-            _ => row[field].wrapping_add(32 << draw.pick(&[0, 3, 11, 27, 58])),
+            (_, 0) => other(draw, u64::from(row[field]), 32) as u32,
+            (0, _) => draw.pick(&[0, 1, 2, 3, 3, 4, 4, 5, 259, 260, 1 << 31, (1 << 31) + 3]),
+            (3 | 4, _) => row[field].wrapping_add((draw.below(3) as u32 + 1) << draw.pick(&[28, 30, 31])),
+            _ => row[field].wrapping_add(32 << draw.pick(&[0, 3, 11, 20, 26])),
         };
     }
     rooms
@@ -410,7 +410,7 @@ fn small(draw: &mut Draw) -> Rooms {
         }
     }
     for row in rooms.rows.chunks_mut(WIDTH).take(rows) {
-        let numbers = [6, 36, 36, 9, 9, 36].map(|end| draw.below(end) as u64);
+        let numbers = [6, 36, 36, 9, 9, 36].map(|end| draw.below(end) as u32);
         row.copy_from_slice(&numbers);
     }
     rooms
@@ -719,7 +719,7 @@ pub const KEYS: [&str; 45] = [
     "a count of 0 that would fall",
     "a minute past the largest",
     "a minute below 0",
-    "a number of a row cut to 32 bits",
+    "a number of a row past 31 bits",
     "a kind that is none, met",
     "a point of a row past 31, met",
     "the last event's number stays",
@@ -848,8 +848,8 @@ impl Equation for Count {
         let sum = i128::from(minute) + i128::from(base) + cut(up) - cut(down);
         self.add_if(sum > i128::from(NEVER), "a minute past the largest");
         self.add_if(sum < 0, "a minute below 0");
-        let wide = up.max(down) > u64::from(NEVER);
-        self.add_if(wide, "a number of a row cut to 32 bits");
+        let wide = up.max(down) > u64::from(NEVER / 2);
+        self.add_if(wide, "a number of a row past 31 bits");
         AsStated.reach(minute, base, up, down)
     }
 
@@ -930,7 +930,7 @@ fn begun_place(at: usize) -> (usize, usize, String) {
         ("into", LIST, 2),
         ("out", LIST, 2),
         ("ends", LIST, 2),
-        ("rows", SHEET, 8),
+        ("rows", SHEET, 4),
     ];
     for (name, length, size) in rooms {
         if at < from + length * size {

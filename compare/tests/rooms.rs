@@ -206,7 +206,7 @@ wrong! {
         }
     }
     KindByte "the lowest byte of a kind counts" {
-        fn row(&self, rows: &[u64], number: usize) -> Row {
+        fn row(&self, rows: &[u32], number: usize) -> Row {
             let row = AsStated.row(rows, number);
             Row { kind: row.kind % 256, ..row }
         }
@@ -217,9 +217,9 @@ wrong! {
     WaitOrMore "a kind past 4 is a wait" {
         fn is_wait(&self, row: &Row) -> bool { row.kind >= 4 }
     }
-    HoldingCut "a second number of which 32 bits are 0 holds nothing" {
+    HoldingCut "a second number of which 16 bits are 0 holds nothing" {
         fn holding(&self, row: &Row) -> bool {
-            self.is_ordinary(row) && row.second as u32 > 0 || self.is_wait(row)
+            self.is_ordinary(row) && row.second as u16 > 0 || self.is_wait(row)
         }
     }
     HoldingZero "an ordinary record of d = 0 holds" {
@@ -253,12 +253,6 @@ wrong! {
             let sum = i128::from(minute) + i128::from(base) + i128::from(up as u32);
             let sum = sum - i128::from(down as u32);
             if sum < 0 { sum as u32 } else { sum.min(i128::from(NEVER)) as u32 }
-        }
-    }
-    ReachUncut "the numbers of a row are not cut" {
-        fn reach(&self, minute: u32, base: u32, up: u64, down: u64) -> u32 {
-            let sum = i128::from(minute) + i128::from(base) + i128::from(up);
-            (sum - i128::from(down)).clamp(0, i128::from(NEVER)) as u32
         }
     }
     LowTurned "Low with up and down turned" {

@@ -49,11 +49,11 @@ pub struct Rooms {
     pub into: Vec<u16>,
     pub out: Vec<u16>,
     pub ends: Vec<u16>,
-    pub rows: Vec<u64>,
+    pub rows: Vec<u32>,
 }
 
 /// How many bytes they are.
-pub const BYTES: usize = 4 * LINKS + 4 * KEPT + 3 * 2 * LIST + 8 * SHEET;
+pub const BYTES: usize = 4 * LINKS + 4 * KEPT + 3 * 2 * LIST + 4 * SHEET;
 
 impl Rooms {
     pub fn zeros() -> Rooms {
@@ -86,7 +86,7 @@ impl Rooms {
             *place = number(2) as u16;
         }
         for place in &mut rooms.rows {
-            *place = number(8);
+            *place = number(4) as u32;
         }
         rooms
     }
@@ -207,15 +207,15 @@ pub trait Equation {
 
     // ---- rows
 
-    fn row(&self, rows: &[u64], number: usize) -> Row {
-        let row = &rows[number * WIDTH..][..WIDTH];
+    fn row(&self, rows: &[u32], number: usize) -> Row {
+        let field = |place: usize| u64::from(rows[number * WIDTH + place]);
         Row {
-            kind: row[0],
-            from: row[1],
-            to: row[2],
-            first: row[3],
-            second: row[4],
-            over: row[5],
+            kind: field(0),
+            from: field(1),
+            to: field(2),
+            first: field(3),
+            second: field(4),
+            over: field(5),
         }
     }
 
@@ -599,9 +599,10 @@ pub trait Equation {
             let of = |row: &Row| if row.kind < least { 32 } else { key(row) % 33 };
             rows.iter().map(|row| of(row) as usize).collect()
         };
-        let mut sheet: Vec<u64> = rows
+        let mut sheet: Vec<u32> = rows
             .iter()
             .flat_map(|row| [row.kind, row.from, row.to, row.first, row.second, row.over])
+            .map(|number| number as u32)
             .collect();
         sheet.resize(SHEET, 0);
         let mut kept = vec![0; KEPT];

@@ -52,7 +52,7 @@ const LIST_BYTES: usize = 4 * REPLY;
 
 const HALVES_BYTES: usize = 2 * LIST;
 
-const ROWS_BYTES: usize = 8 * SHEET;
+const ROWS_BYTES: usize = 4 * SHEET;
 
 fn links_bytes(room: &[u32; LINKS]) -> [u8; LINKS_BYTES] {
     let mut bytes = [0u8; LINKS_BYTES];
@@ -78,17 +78,9 @@ fn list_bytes(room: &[u32; REPLY]) -> [u8; LIST_BYTES] {
     bytes
 }
 
-// One byte of two, and of eight.
+// One byte of two.
 fn half_byte(x: u16, k: u32) -> u8 {
     byte_of(x as u32, k)
-}
-
-fn long_byte(x: u64, k: u32) -> u8 {
-    if k < 4 {
-        byte_of(low(x), k)
-    } else {
-        byte_of(high(x), k % 4)
-    }
 }
 
 fn halves_bytes(room: &[u16; LIST]) -> [u8; HALVES_BYTES] {
@@ -99,10 +91,10 @@ fn halves_bytes(room: &[u16; LIST]) -> [u8; HALVES_BYTES] {
     bytes
 }
 
-fn rows_bytes(room: &[u64; SHEET]) -> [u8; ROWS_BYTES] {
+fn rows_bytes(room: &[u32; SHEET]) -> [u8; ROWS_BYTES] {
     let mut bytes = [0u8; ROWS_BYTES];
     for k in 0..ROWS_BYTES {
-        bytes[k] = long_byte(room[k / 8], (k % 8) as u32);
+        bytes[k] = byte_of(room[k / 4], (k % 4) as u32);
     }
     bytes
 }
@@ -127,7 +119,7 @@ pub fn say_halves(room: &[u16; LIST]) {
     io::write_all(STDOUT_FILENO, &bytes);
 }
 
-pub fn say_rows(room: &[u64; SHEET]) {
+pub fn say_rows(room: &[u32; SHEET]) {
     let bytes = rows_bytes(room);
     io::write_all(STDOUT_FILENO, &bytes);
 }

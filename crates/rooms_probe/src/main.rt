@@ -62,7 +62,7 @@ fn within(n: usize, bytes: &[u8]) -> usize
 }
 
 // The reply and the board that the rooms give.
-fn say_both(links: &[u32; LINKS], rows: &[u64; SHEET], out: &[u16; LIST], kept: &[u32; KEPT]) {
+fn say_both(links: &[u32; LINKS], rows: &[u32; SHEET], out: &[u16; LIST], kept: &[u32; KEPT]) {
     let mut reply = [0u32; REPLY];
     ponds_reply(links, rows, out, kept, &mut reply);
     say_list(&reply);
@@ -74,7 +74,7 @@ fn say_both(links: &[u32; LINKS], rows: &[u64; SHEET], out: &[u16; LIST], kept: 
 // An event of so many bytes is read, taken, and everything after it written.
 fn event(
     links: &[u32; LINKS],
-    rows: &[u64; SHEET],
+    rows: &[u32; SHEET],
     into: &[u16; LIST],
     out: &[u16; LIST],
     ends: &[u16; LIST],
@@ -90,7 +90,7 @@ fn event(
 // A plan file of so many bytes is read, where there is one, the rooms are begun from it, and all of them written.
 fn begun(
     links: &mut [u32; LINKS],
-    rows: &mut [u64; SHEET],
+    rows: &mut [u32; SHEET],
     into: &mut [u16; LIST],
     out: &mut [u16; LIST],
     ends: &mut [u16; LIST],

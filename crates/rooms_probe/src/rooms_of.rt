@@ -29,18 +29,13 @@ fn word(bytes: &[u8], at: u32) -> u32 {
     wide(byte_at(bytes, from)) + 256 * (wide(byte_at(bytes, from + 1)) + 256 * high)
 }
 
-// The number of two bytes that is k-th from a place on, of four, of eight.
+// The number of two bytes that is k-th from a place on, and of four.
 fn half_at(bytes: &[u8], from: u32, k: u16) -> u16 {
     half(bytes, from % 65536 + 2 * (k as u32))
 }
 
 fn word_at(bytes: &[u8], from: u32, k: u16) -> u32 {
     word(bytes, from % 65536 + 4 * (k as u32))
-}
-
-fn long_at(bytes: &[u8], from: u32, k: u16) -> u64 {
-    let at = from % 65536 + 8 * (k as u32);
-    word(bytes, at) as u64 + 4294967296 * (word(bytes, at + 4) as u64)
 }
 
 pub fn links_of(bytes: &[u8]) -> [u32; LINKS] {
@@ -67,10 +62,10 @@ pub fn list_of(bytes: &[u8], from: u32) -> [u16; LIST] {
     room
 }
 
-pub fn rows_of(bytes: &[u8], from: u32) -> [u64; SHEET] {
-    let mut room = [0u64; SHEET];
+pub fn rows_of(bytes: &[u8], from: u32) -> [u32; SHEET] {
+    let mut room = [0u32; SHEET];
     for k in 0..SHEET {
-        room[k] = long_at(bytes, from, k as u16);
+        room[k] = word_at(bytes, from, k as u16);
     }
     room
 }

@@ -5,25 +5,25 @@ use Rattle.rooms_probe.proofs.bytes_of.rows_bytes.Statement.{statement}
 use Rattle.rooms_probe.proofs.bytes_of.rows_bytes.Tie as tie
 
 abbrev Inv-loop : tie.InvT-loop
-Inv-loop room bytes₀ k₀ bytes k = k ≤ 54144
+Inv-loop room bytes₀ k₀ bytes k = k ≤ 27072
 
 abbrev μ-loop : tie.MeasureT-loop
-μ-loop room bytes₀ k₀ bytes k = 54144 - k
+μ-loop room bytes₀ k₀ bytes k = 27072 - k
 
 loop-holds : tie.Need-loop-holds Inv-loop μ-loop
 loop-holds c = search needs
 
-mul-long-byte : tie.Need-mul-long-byte Inv-loop μ-loop
-mul-long-byte c = search needs
+mul-byte-of : tie.Need-mul-byte-of Inv-loop μ-loop
+mul-byte-of c = search needs
 
-element-copy-out-long-byte : tie.Need-element-copy-out-long-byte Inv-loop μ-loop
-element-copy-out-long-byte c = search needs
+element-copy-out-byte-of : tie.Need-element-copy-out-byte-of Inv-loop μ-loop
+element-copy-out-byte-of c = search needs
 
-cast-long-byte : tie.Need-cast-long-byte Inv-loop μ-loop
-cast-long-byte c = search needs
+cast-byte-of : tie.Need-cast-byte-of Inv-loop μ-loop
+cast-byte-of c = search needs
 
-long-byte-requires : tie.Need-long-byte-requires Inv-loop μ-loop
-long-byte-requires c κs = search needs
+byte-of-requires : tie.Need-byte-of-requires Inv-loop μ-loop
+byte-of-requires c κs = search needs
 
 array-write-bytes : tie.Need-array-write-bytes Inv-loop μ-loop
 array-write-bytes c = search needs
@@ -47,10 +47,10 @@ rows-bytes-spec =
     Inv-loop
     μ-loop
     loop-holds
-    mul-long-byte
-    element-copy-out-long-byte
-    cast-long-byte
-    long-byte-requires
+    mul-byte-of
+    element-copy-out-byte-of
+    cast-byte-of
+    byte-of-requires
     array-write-bytes
     add-k
     loop-less

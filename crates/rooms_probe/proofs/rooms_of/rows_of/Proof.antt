@@ -13,11 +13,11 @@ abbrev μ-loop : tie.MeasureT-loop
 loop-holds : tie.Need-loop-holds Inv-loop μ-loop
 loop-holds c = search needs
 
-cast-long-at : tie.Need-cast-long-at Inv-loop μ-loop
-cast-long-at c = search needs
+cast-word-at : tie.Need-cast-word-at Inv-loop μ-loop
+cast-word-at c = search needs
 
-long-at-requires : tie.Need-long-at-requires Inv-loop μ-loop
-long-at-requires c κs = search needs
+word-at-requires : tie.Need-word-at-requires Inv-loop μ-loop
+word-at-requires c κs = search needs
 
 mul-room : tie.Need-mul-room Inv-loop μ-loop
 mul-room c = search needs
@@ -44,8 +44,8 @@ rows-of-spec =
     Inv-loop
     μ-loop
     loop-holds
-    cast-long-at
-    long-at-requires
+    cast-word-at
+    word-at-requires
     mul-room
     array-write-room
     add-k

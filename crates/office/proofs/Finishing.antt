@@ -9,17 +9,17 @@ use Rattle.plan.specs.ReplyNumbers.{checkOf}
 use Rattle.plan.specs.declared.Plan.{Plan}
 use Rattle.plan.specs.declared.Refusal.{Refusal}
 use Rattle.office.specs.Sheets.{refused}
-use Rattle.office.specs.Inside.{finished}
+use Rattle.office.specs.Inside.{judged}
 use Rattle.office.specs.declared.Imported.{Imported}
 
 module _ (n : ℕ) (rs : List Record) (k : ℕ) (is : k ≡ min n (mostRecords + 1)) (x : Refusal) where
   abbrev made : Plan
   made = record { count = k; records = rs }
 
-  pub finish-bad : x ≡ checkOf made → (x .number ≡ 0 → ⊥) → refused x ≡ finished n rs
-  unfolding finished
-  finish-bad e b = rw (← is, ← e, ne-eqb (x .number) 0 b)
+  pub judge-bad : x ≡ checkOf made → (x .number ≡ 0 → ⊥) → refused x ≡ judged n rs
+  unfolding judged
+  judge-bad e b = rw (← is, ← e, ne-eqb (x .number) 0 b)
 
-  pub finish-good : x ≡ checkOf made → x .number ≡ 0 → _≡_ {A = Imported} (record { number = 0; line = 0; plan = made }) (finished n rs)
-  unfolding finished
-  finish-good e b = rw (← is, ← e, eq-eqb (x .number) 0 b)
+  pub judge-good : x ≡ checkOf made → x .number ≡ 0 → _≡_ {A = Imported} (record { number = 0; line = 0; plan = made }) (judged n rs)
+  unfolding judged
+  judge-good e b = rw (← is, ← e, eq-eqb (x .number) 0 b)

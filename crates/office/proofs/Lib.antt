@@ -2,10 +2,10 @@
 mod ACase
 mod ALines
 mod Lines
-mod Cutting
 mod Filling
 mod Rows
-mod Imports
+mod Judged
+pub mod Fed
 mod Finishing
 pub mod Growers
 pub mod Sayable

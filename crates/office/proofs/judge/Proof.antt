@@ -1,10 +1,10 @@
--- `office::finish` meets its contract. Assumes nothing.
-use Rattle.office.proofs.Finishing.{finish-bad, finish-good}
+-- `office::judge` meets its contract. Assumes nothing.
+use Rattle.office.proofs.Finishing.{judge-bad, judge-good}
 use mathlib.Core.Path.{_∙_}
 use native.Mathlib.Omega.{arith}
 use borrow.Author.Needs.{needs}
-use Rattle.office.proofs.finish.Statement.{statement}
-use Rattle.office.proofs.finish.Tie as tie
+use Rattle.office.proofs.judge.Statement.{statement}
+use Rattle.office.proofs.judge.Tie as tie
 
 add-at-most : tie.Need-add-at-most
 add-at-most c = search needs
@@ -25,13 +25,13 @@ refuse-requires : tie.Need-refuse-requires
 refuse-requires c κs = search needs
 
 returns : tie.Need-returns
-returns c = c .refuse .ensures ∙ finish-bad _ _ _ (c .before .before .before .before .before .at-most .ensures) _ (c .before .before .before .before .check .ensures) (c .before .before .if1 .taken)
+returns c = c .refuse .ensures ∙ judge-bad _ _ _ (c .before .before .before .before .before .at-most .ensures) _ (c .before .before .before .before .check .ensures) (c .before .before .if1 .taken)
 
 returns-2 : tie.Need-returns-2
-returns-2 c = finish-good _ _ _ (c .before .before .before .at-most .ensures) _ (c .before .before .check .ensures) (c .if1 .left)
+returns-2 c = judge-good _ _ _ (c .before .before .before .at-most .ensures) _ (c .before .before .check .ensures) (c .if1 .left)
 
-pub finish-spec : {M : Type 1} → statement M
-finish-spec =
+pub judge-spec : {M : Type 1} → statement M
+judge-spec =
     tie.close
     (tie.spec
     add-at-most

@@ -6,7 +6,7 @@ use mathlib.Core.List.{List, [], _∷_, _++_, map}
 use Prim.Native.Nat.{ℕ, suc, _+_, _-_, _%_, _≤_, _<_, min}
 use native.Mathlib.Omega.{arith}
 use lib.Dec.{eqb}
-use lib.ListN.{length, set, drop, replicate, length-append}
+use lib.ListN.{length, set, drop, getD, replicate, length-append}
 use lib.Seq.{append-snoc}
 use borrow.Author.Tests.{eq-eqb, ne-eqb, eqb-true, eqb-false}
 use Rattle.numbers.specs.Choice.{if_then_else_}
@@ -368,6 +368,11 @@ module _ (answer : Imported) where
   finished-is f (inside n records k cells p u t i fits o) = rw o (answered-is _ (last-is n records k cells p u t i (omega arith)))
 
 -- ---- the theorems
+
+-- the bytes of a slice
+pub all-bytes : (s : List ℕ) → ((i : ℕ) → getD s i 0 < 256) → All IsByte s
+all-bytes [] h = tt
+all-bytes (c ∷ s) h = (h 0, all-bytes s (λ i. h (suc i)))
 
 -- a text that is fed whole
 pub fed-is : (s : List ℕ) → All IsByte s → length s < most → finishedOf (fedOf begun s) ≡ importOf s

@@ -6,6 +6,7 @@ mod Filling
 mod Rows
 mod Judged
 pub mod Fed
+mod Feeds
 mod Finishing
 pub mod Growers
 pub mod Sayable

@@ -27,7 +27,7 @@ pub(crate) fn read_all(front: &mut [u8]) -> u64 {
     if n < front.len() {
         return n as u64;
     }
-    let mut room = io::large_buffer();
+    let mut room = piece_room();
     wrapping_add_u64(n as u64, pass_over(&mut room))
 }
 
@@ -37,12 +37,12 @@ pub(crate) fn plan_in(front: &mut [u8]) -> Reading {
     read_front(length, front)
 }
 
-// The longest text or listing, which is held whole.
-pub(crate) const TEXT_ROOM: usize = 262144;
+// So many bytes are read at once where the input is not held.
+const PIECE: usize = 16384;
 
-// Room for it. The `ensures` gives only the length, which lending it as a slice needs.
-pub(crate) fn text_room() -> [u8; TEXT_ROOM]
-    ensures { λ r. ⌜ 262144 ≡ length r ⌝ }
+// Room for them. The `ensures` gives only the length, which lending it as a slice needs.
+pub(crate) fn piece_room() -> [u8; PIECE]
+    ensures { λ r. ⌜ 16384 ≡ length r ⌝ }
 {
-    [0; TEXT_ROOM]
+    [0; PIECE]
 }

@@ -45,7 +45,8 @@ fn calendar(origin: Stamp) {
     write(sheet, origin)
 }
 
-pub(crate) fn run() {
+#[no_mangle]
+pub extern "C" fn desk_calendar() {
     let year = number(2);
     let month = number(3);
     let day = number(4);
@@ -61,4 +62,8 @@ pub(crate) fn run() {
         hour: hour.value,
         minute: minute.value,
     })
+}
+
+pub(crate) fn run() {
+    desk_calendar()
 }

@@ -32,11 +32,16 @@ fn imported() -> Imported {
     finish(fed(&mut room))
 }
 
-pub(crate) fn run() {
+#[no_mangle]
+pub extern "C" fn desk_import() {
     let answer = imported();
     if answer.number != ACCEPTED {
         let line = answers::import_refused(answer.number, answer.line as u64);
         return say(STDERR_FILENO, line);
     }
     write_plan(answer.plan)
+}
+
+pub(crate) fn run() {
+    desk_import()
 }

@@ -2,6 +2,8 @@
 ghost use mathlib.Core.Path.{_≡_};
 ghost use lib.ListN.{length};
 use libc::STDIN_FILENO;
+use plan::MOST_RECORDS;
+use plan::RECORD_BYTES;
 use plan::Reading;
 use std::num::wrapping_add_u64;
 use stream::read_front;
@@ -45,4 +47,11 @@ pub(crate) fn piece_room() -> [u8; PIECE]
     ensures { λ r. ⌜ 16384 ≡ length r ⌝ }
 {
     [0; PIECE]
+}
+
+// Room for the front of a plan file: all of one, or of a longer one as much as its refusal needs. The `ensures` gives only the length.
+pub(crate) fn plan_room() -> [u8; RECORD_BYTES * (MOST_RECORDS + 2)]
+    ensures { λ r. ⌜ 18080 ≡ length r ⌝ }
+{
+    [0; RECORD_BYTES * (MOST_RECORDS + 2)]
 }

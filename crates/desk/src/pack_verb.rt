@@ -69,7 +69,8 @@ fn packed(text: &[u8], length: usize) {
     io::write_all(STDOUT_FILENO, &room[..m]);
 }
 
-pub(crate) fn run() {
+#[no_mangle]
+pub extern "C" fn desk_pack() {
     let mut room = io::large_buffer();
     let text: &mut [u8] = &mut room;
     let length = read_all(text);
@@ -78,4 +79,8 @@ pub(crate) fn run() {
         return;
     }
     packed(text, length as usize)
+}
+
+pub(crate) fn run() {
+    desk_pack()
 }

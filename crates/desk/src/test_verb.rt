@@ -1,11 +1,13 @@
 // `desk test`: a plan file, and the plan test's answer to it.
 use crate::input::plan_in;
+use crate::input::plan_room;
 use crate::say::say;
 use libc::STDOUT_FILENO;
 use plan::ACCEPTED;
 
-pub(crate) fn run() {
-    let mut room = io::large_buffer();
+#[no_mangle]
+pub extern "C" fn desk_test() {
+    let mut room = plan_room();
     let reading = plan_in(&mut room);
     if reading.number != ACCEPTED {
         return say(
@@ -14,4 +16,8 @@ pub(crate) fn run() {
         );
     }
     say(STDOUT_FILENO, text::test_line(vee::test(reading.plan)))
+}
+
+pub(crate) fn run() {
+    desk_test()
 }

@@ -1,11 +1,13 @@
 // `desk worst`: a plan file, and its worst finishing minute with the first projection that reaches it.
 use crate::input::plan_in;
+use crate::input::plan_room;
 use crate::say::say;
 use libc::STDOUT_FILENO;
 use plan::ACCEPTED;
 
-pub(crate) fn run() {
-    let mut room = io::large_buffer();
+#[no_mangle]
+pub extern "C" fn desk_worst() {
+    let mut room = plan_room();
     let reading = plan_in(&mut room);
     if reading.number != ACCEPTED {
         return say(
@@ -17,4 +19,8 @@ pub(crate) fn run() {
         STDOUT_FILENO,
         answers::worst_line(worst::worst_of(reading.plan)),
     )
+}
+
+pub(crate) fn run() {
+    desk_worst()
 }

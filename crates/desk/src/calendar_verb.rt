@@ -45,8 +45,7 @@ fn calendar(origin: Stamp) {
     write(sheet, origin)
 }
 
-#[no_mangle]
-pub extern "C" fn desk_calendar() {
+pub(crate) fn run() {
     let year = number(2);
     let month = number(3);
     let day = number(4);
@@ -62,8 +61,4 @@ pub extern "C" fn desk_calendar() {
         hour: hour.value,
         minute: minute.value,
     })
-}
-
-pub(crate) fn run() {
-    desk_calendar()
 }

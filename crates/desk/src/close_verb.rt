@@ -8,8 +8,7 @@ use closure::close;
 use libc::STDERR_FILENO;
 use plan::ACCEPTED;
 
-#[no_mangle]
-pub extern "C" fn desk_close() {
+pub(crate) fn run() {
     let mut room = plan_room();
     let reading = plan_in(&mut room);
     if reading.number != ACCEPTED {
@@ -23,8 +22,4 @@ pub extern "C" fn desk_close() {
         return say(STDERR_FILENO, answers::close_refused(made.number));
     }
     write_plan(made.plan)
-}
-
-pub(crate) fn run() {
-    desk_close()
 }

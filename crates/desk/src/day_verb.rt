@@ -32,8 +32,7 @@ fn write_day(plan: Plan, front: &[u8], length: u64, projection: u32) {
     io::write_all(STDOUT_FILENO, &room[..m]);
 }
 
-#[no_mangle]
-pub extern "C" fn desk_day(projection: u32) {
+pub(crate) fn run(projection: u32) {
     let mut room = plan_room();
     let front: &mut [u8] = &mut room;
     let length = read_all(front);
@@ -45,8 +44,4 @@ pub extern "C" fn desk_day(projection: u32) {
         );
     }
     write_day(reading.plan, front, length, projection)
-}
-
-pub(crate) fn run(projection: u32) {
-    desk_day(projection)
 }

@@ -32,16 +32,11 @@ fn imported() -> Imported {
     finish(fed(&mut room))
 }
 
-#[no_mangle]
-pub extern "C" fn desk_import() {
+pub(crate) fn run() {
     let answer = imported();
     if answer.number != ACCEPTED {
         let line = answers::import_refused(answer.number, answer.line as u64);
         return say(STDERR_FILENO, line);
     }
     write_plan(answer.plan)
-}
-
-pub(crate) fn run() {
-    desk_import()
 }

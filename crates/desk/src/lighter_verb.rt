@@ -21,8 +21,7 @@ fn say_dropped(made: Lighter) {
     }
 }
 
-#[no_mangle]
-pub extern "C" fn desk_lighter() {
+pub(crate) fn run() {
     let mut room = plan_room();
     let reading = plan_in(&mut room);
     if reading.number != ACCEPTED {
@@ -37,8 +36,4 @@ pub extern "C" fn desk_lighter() {
     }
     write_plan(made.plan);
     say_dropped(made)
-}
-
-pub(crate) fn run() {
-    desk_lighter()
 }

@@ -21,8 +21,7 @@ fn say_records(plan: Plan) {
     }
 }
 
-#[no_mangle]
-pub extern "C" fn desk_list() {
+pub(crate) fn run() {
     let mut room = plan_room();
     let reading = plan_in(&mut room);
     if reading.number != ACCEPTED {
@@ -32,8 +31,4 @@ pub extern "C" fn desk_list() {
         );
     }
     say_records(reading.plan)
-}
-
-pub(crate) fn run() {
-    desk_list()
 }

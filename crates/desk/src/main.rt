@@ -1,6 +1,5 @@
 // One program for the desk: `desk VERB [WORDS]`, standard input to standard output. Each verb is a file here that reads, calls
-// one proved function and prints proved lines; what reads and writes no contract can say. Memory does not grow with the input. A verb is
-// an exported function (`extern "C"`), for its frame alone: the compiler makes one frame of all that it can put into `main`.
+// one proved function and prints proved lines; what reads and writes no contract can say. Memory does not grow with the input.
 mod calendar_verb;
 mod close_verb;
 mod day_verb;

@@ -69,8 +69,7 @@ fn packed(text: &[u8], length: usize) {
     io::write_all(STDOUT_FILENO, &room[..m]);
 }
 
-#[no_mangle]
-pub extern "C" fn desk_pack() {
+pub(crate) fn run() {
     let mut room = io::large_buffer();
     let text: &mut [u8] = &mut room;
     let length = read_all(text);
@@ -79,8 +78,4 @@ pub extern "C" fn desk_pack() {
         return;
     }
     packed(text, length as usize)
-}
-
-pub(crate) fn run() {
-    desk_pack()
 }

@@ -5,8 +5,7 @@ use crate::say::say;
 use libc::STDOUT_FILENO;
 use plan::ACCEPTED;
 
-#[no_mangle]
-pub extern "C" fn desk_test() {
+pub(crate) fn run() {
     let mut room = plan_room();
     let reading = plan_in(&mut room);
     if reading.number != ACCEPTED {
@@ -16,8 +15,4 @@ pub extern "C" fn desk_test() {
         );
     }
     say(STDOUT_FILENO, text::test_line(vee::test(reading.plan)))
-}
-
-pub(crate) fn run() {
-    desk_test()
 }

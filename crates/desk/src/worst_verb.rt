@@ -5,8 +5,7 @@ use crate::say::say;
 use libc::STDOUT_FILENO;
 use plan::ACCEPTED;
 
-#[no_mangle]
-pub extern "C" fn desk_worst() {
+pub(crate) fn run() {
     let mut room = plan_room();
     let reading = plan_in(&mut room);
     if reading.number != ACCEPTED {
@@ -19,8 +18,4 @@ pub extern "C" fn desk_worst() {
         STDOUT_FILENO,
         answers::worst_line(worst::worst_of(reading.plan)),
     )
-}
-
-pub(crate) fn run() {
-    desk_worst()
 }

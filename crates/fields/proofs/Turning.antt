@@ -49,3 +49,7 @@ module _ (s : Spot) (c : ℕ) where
   pub step-act : s .turned ≡ false → (c ≡ cr → ⊥) → (a : Act) → actOf (s .place) c ≡ a → actStep a (s .seen) c ≡ stepOf s c
   unfolding stepOf
   step-act e n a h = rw (e, ne-eqb c cr n, h)
+
+-- a line's end inside quotes
+pub open-end : (p : Place) → p ≡ Quoted → Broken ≡ endStep p
+open-end p e = rw e

@@ -2,7 +2,7 @@
 -- not cite it. Assumes nothing.
 use mathlib.Core.Bool.{Bool, true, false, _&&_, not}
 use mathlib.Core.List.{List, [], _∷_}
-use Prim.Native.Nat.{ℕ}
+use Prim.Native.Nat.{ℕ, suc, _+_}
 use lib.Dec.{eqb}
 use Rattle.numbers.specs.Choice.{if_then_else_}
 use Rattle.values.specs.Inside.{fresh, with}
@@ -14,6 +14,7 @@ use Rattle.fields.specs.declared.Act.{Act}
 use Rattle.fields.specs.declared.Act.the-variants.{Keep, Skip, Cut, Break}
 use Rattle.fields.specs.declared.Spot.{Spot}
 use Rattle.fields.specs.declared.Step.{Step}
+use Rattle.fields.specs.declared.Walk.{Walk}
 use Rattle.fields.specs.declared.Step.the-variants.{On, Comma, Ends, Broken}
 
 -- the byte in front is the CR of a line's end
@@ -72,3 +73,18 @@ isQuoted Closed = false
 
 abbrev pub mayEnd : Spot → Bool
 mayEnd s = not (isQuoted (s .place)) && not (s .turned)
+
+-- a walk that has come to byte i, and what the byte there does
+abbrev pub walkTo : Spot → Step → ℕ → Walk
+walkTo s t i = record { spot = s; step = t; next = i }
+
+abbrev pub walked : Step → Spot → ℕ → (Spot → Walk) → Walk
+walked (On q) s i go = go q
+walked Comma s i go = walkTo s Comma (i + 1)
+walked Ends s i go = walkTo s Ends (i + 1)
+walked Broken s i go = walkTo s Broken (i + 1)
+
+-- from byte i on, as far as the field goes, or the bytes
+unfoldable pub walkFrom : Spot → ℕ → List ℕ → Walk
+walkFrom s i [] = walkTo s (On s) i
+walkFrom s i (c ∷ t) = walked (stepOf s c) s i (λ q. walkFrom q (suc i) t)

@@ -3,8 +3,9 @@
 // a CR is kept as one until the byte behind it. What a field says comes from the room below, `values`. An inner room: it serves
 // `office`. Nothing is asked of a caller.
 ghost use mathlib.Core.Path.{_≡_};
+ghost use lib.ListN.{drop};
 ghost use Rattle.fields.specs.Quoting.{bareAct, quotedAct, closedAct, actOf};
-ghost use Rattle.fields.specs.Inside.{beginning, isAtBegin, endStep, behindCr, kept, stepOf, mayEnd};
+ghost use Rattle.fields.specs.Inside.{beginning, isAtBegin, endStep, behindCr, kept, stepOf, mayEnd, walkFrom};
 use values::Seen;
 
 const QUOTE: u8 = 34;
@@ -192,5 +193,39 @@ impl Spot {
             Place::Quoted => false,
             Place::Closed => !self.turned,
         }
+    }
+}
+
+// What stopped a field, where it was then, and the place behind; or the end of the piece.
+pub struct Walk {
+    pub spot: Spot,
+    pub step: Step,
+    pub next: usize,
+}
+
+// From a place in a piece on, as far as the field goes.
+pub fn walk_from(piece: &[u8], at: usize, spot: Spot) -> Walk
+    ensures { λ w. ⌜ w ≡ walkFrom spot at (drop at (now (piece .entry))) ⌝ }
+{
+    let n = piece.len();
+    let mut here = spot;
+    let mut i = at;
+    while i < n {
+        let c = piece[i];
+        let step = here.step(c);
+        let Step::On(next) = step else {
+            return Walk {
+                spot: here,
+                step: step,
+                next: i + 1,
+            };
+        };
+        here = next;
+        i += 1;
+    }
+    Walk {
+        spot: here,
+        step: Step::On(here),
+        next: i,
     }
 }

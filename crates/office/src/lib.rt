@@ -13,6 +13,7 @@ ghost use Rattle.office.specs.Inside.{lineNumber, readableIn, recordIn, 
 ghost use Rattle.office.specs.Feeding.{begun, lineBegins, stopped, cellsWith, counted, fedOf, lastOf, finishedOf};
 use fields::Spot;
 use fields::Step;
+use fields::walk_from;
 use plan::ACCEPTED;
 use plan::MOST_RECORDS;
 use plan::Plan;
@@ -232,20 +233,22 @@ pub fn feed(state: Feeding, piece: &[u8]) -> Feeding
     let mut spot = state.spot;
     let mut i: usize = 0;
     while i < n {
-        let c = piece[i];
-        i += 1;
-        match spot.step(c) {
+        let gone = walk_from(piece, i, spot);
+        let here = gone.spot;
+        let step = gone.step;
+        i = gone.next;
+        match step {
             Step::On(next) => {
                 spot = next;
             }
             Step::Comma => {
-                let seen = spot.seen;
+                let seen = here.seen;
                 cells[commas % COLUMNS] = seen;
                 commas = one_more(commas, COLUMNS);
                 spot = Spot::begin();
             }
             Step::Ends => {
-                let seen = spot.seen;
+                let seen = here.seen;
                 let line = line_of(commas, cells, seen);
                 let Line::Good(r) = line else {
                     return stop(number_in(line), lines);

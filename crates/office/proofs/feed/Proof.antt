@@ -1,6 +1,7 @@
 -- `office::feed` meets its contract. Assumes nothing.
-use Rattle.office.proofs.Feeds.{open′, opened, stays, feeds-end, feeds-on, feeds-comma, feeds-line, feeds-broken, feeds-bad}
+use Rattle.office.proofs.Feeds.{open′, opened, stays, walk-further, feeds-end, feeds-on, feeds-comma, feeds-line, feeds-broken, feeds-bad}
 use Rattle.values.specs.Inside.{fresh}
+use Rattle.fields.specs.declared.Walk.{Walk}
 use Rattle.office.specs.Feeding.{fedOf}
 use lib.ListN.{length, drop}
 use mathlib.Core.Path.{_≡_, refl, sym, ap, _∙_}
@@ -25,25 +26,21 @@ none-requires c κs = search needs
 loop-holds : tie.Need-loop-holds Inv-loop μ-loop
 loop-holds c = (refl, (c .before .before .before .none .ensures, refl))
 
-shared-slice-read-c : tie.Need-shared-slice-read-c Inv-loop μ-loop
-shared-slice-read-c c = search needs
+walk-from-requires : tie.Need-walk-from-requires Inv-loop μ-loop
+walk-from-requires c κs = search needs
 
-add-i : tie.Need-add-i Inv-loop μ-loop
-add-i c = search needs
-
-step-requires : tie.Need-step-requires Inv-loop μ-loop
-step-requires c κs = search needs
-
-enum-known-next : tie.Need-enum-known-next Inv-loop μ-loop
-enum-known-next c = search needs
+enum-known-step : tie.Need-enum-known-step Inv-loop μ-loop
+enum-known-step c = search needs
 
 loop-less : tie.Need-loop-less Inv-loop μ-loop
-loop-less c = search needs
+loop-less c = let a = c .before .before .before .before .before .before .before .before .before .before .before .before .before .before .args in
+    let l = c .before .before .before .before .before .before .loop in
+    omega (arith, walk-further (a .piece .now) (l .i) (l .lines) (l .records) (l .commas) (l .cells) (l .spot) _ (l .inv .1 .1) (omega arith), ap (λ (x : Walk). x .next) (c .before .before .before .before .walk-from .ensures))
 
 loop-again : tie.Need-loop-again Inv-loop μ-loop
 loop-again c = let a = c .before .before .before .before .before .before .before .before .before .before .before .before .before .before .args in
     let l = c .before .before .before .before .before .before .loop in
-    (l .inv .0, (l .inv .1 .0, feeds-on (a .piece .now) (l .i) (l .lines) (l .records) (l .commas) (l .cells) (l .spot) _ (l .inv .1 .1) (omega arith) _ (c .before .before .before .step .ensures) _ (c .before .next .given .1)))
+    (l .inv .0, (l .inv .1 .0, feeds-on (a .piece .now) (l .i) (l .lines) (l .records) (l .commas) (l .cells) (l .spot) _ (l .inv .1 .1) _ (c .before .before .before .before .walk-from .ensures) _ (c .before .step .given .1)))
 
 enum-told : tie.Need-enum-told Inv-loop μ-loop
 enum-told c = search needs
@@ -61,12 +58,14 @@ begin-requires : tie.Need-begin-requires Inv-loop μ-loop
 begin-requires c κs = search needs
 
 loop-less-2 : tie.Need-loop-less-2 Inv-loop μ-loop
-loop-less-2 c = search needs
+loop-less-2 c = let a = c .before .before .before .before .before .before .before .before .before .before .before .before .before .before .before .before .args in
+    let l = c .before .before .before .before .before .before .before .before .loop in
+    omega (arith, walk-further (a .piece .now) (l .i) (l .lines) (l .records) (l .commas) (l .cells) (l .spot) _ (l .inv .1 .1) (omega arith), ap (λ (x : Walk). x .next) (c .before .before .before .before .before .before .walk-from .ensures))
 
 loop-again-2 : tie.Need-loop-again-2 Inv-loop μ-loop
 loop-again-2 c = let a = c .before .before .before .before .before .before .before .before .before .before .before .before .before .before .before .before .args in
     let l = c .before .before .before .before .before .before .before .before .loop in
-    (l .inv .0, (l .inv .1 .0, feeds-comma (a .piece .now) (l .i) (l .lines) (l .records) (l .commas) (l .cells) (l .spot) _ (l .inv .1 .1) (omega arith) _ (c .before .before .before .before .before .step .ensures) (c .before .before .before .enum-told .given .1) _ (c .before .one-more .ensures) _ (c .begin .ensures)))
+    (l .inv .0, (l .inv .1 .0, feeds-comma (a .piece .now) (l .i) (l .lines) (l .records) (l .commas) (l .cells) (l .spot) _ (l .inv .1 .1) _ (c .before .before .before .before .before .before .walk-from .ensures) (c .before .before .before .enum-told .given .1) _ (c .before .one-more .ensures) _ (c .begin .ensures)))
 
 enum-told-2 : tie.Need-enum-told-2 Inv-loop μ-loop
 enum-told-2 c = search needs
@@ -89,7 +88,7 @@ stop-requires c κs = search needs
 returns-2 : tie.Need-returns-2 Inv-loop μ-loop
 returns-2 c = let a = c .before .before .before .before .before .before .before .before .before .before .before .before .before .before .before .before .before .before .before .args in
     let l = c .before .before .before .before .before .before .before .before .before .before .before .loop in
-    feeds-bad (a .piece .now) (l .i) (l .lines) (l .records) (l .commas) (l .cells) (l .spot) _ (l .inv .1 .1) (omega arith) _ (c .before .before .before .before .before .before .before .before .step .ensures) (c .before .before .before .before .before .before .enum-told2 .given .1) _ (c .before .before .before .before .line-of .ensures) _ (c .before .before .enum-told3 .given .1) _ (c .before .number-in .ensures) _ (c .stop .ensures) ∙ ap (λ f. fedOf f (a .piece .now)) (opened (a .state) (c .before .before .before .before .before .before .before .before .before .before .before .before .before .before .before .before .if1 .left))
+    feeds-bad (a .piece .now) (l .i) (l .lines) (l .records) (l .commas) (l .cells) (l .spot) _ (l .inv .1 .1) _ (c .before .before .before .before .before .before .before .before .before .walk-from .ensures) (c .before .before .before .before .before .before .enum-told2 .given .1) _ (c .before .before .before .before .line-of .ensures) _ (c .before .before .enum-told3 .given .1) _ (c .before .number-in .ensures) _ (c .stop .ensures) ∙ ap (λ f. fedOf f (a .piece .now)) (opened (a .state) (c .before .before .before .before .before .before .before .before .before .before .before .before .before .before .before .before .if1 .left))
 
 mul-records : tie.Need-mul-records Inv-loop μ-loop
 mul-records c = search needs
@@ -104,12 +103,14 @@ begin-requires-2 : tie.Need-begin-requires-2 Inv-loop μ-loop
 begin-requires-2 c κs = search needs
 
 loop-less-3 : tie.Need-loop-less-3 Inv-loop μ-loop
-loop-less-3 c = search needs
+loop-less-3 c = let a = c .before .before .before .before .before .before .before .before .before .before .before .before .before .before .before .before .before .before .before .before .args in
+    let l = c .before .before .before .before .before .before .before .before .before .before .before .before .loop in
+    omega (arith, walk-further (a .piece .now) (l .i) (l .lines) (l .records) (l .commas) (l .cells) (l .spot) _ (l .inv .1 .1) (omega arith), ap (λ (x : Walk). x .next) (c .before .before .before .before .before .before .before .before .before .before .walk-from .ensures))
 
 loop-again-3 : tie.Need-loop-again-3 Inv-loop μ-loop
 loop-again-3 c = let a = c .before .before .before .before .before .before .before .before .before .before .before .before .before .before .before .before .before .before .before .before .args in
     let l = c .before .before .before .before .before .before .before .before .before .before .before .before .loop in
-    (l .inv .0, (l .inv .1 .0, feeds-line (a .piece .now) (l .i) (l .lines) (l .records) (l .commas) (l .cells) (l .spot) _ (l .inv .1 .1) (omega arith) _ (c .before .before .before .before .before .before .before .before .before .step .ensures) (c .before .before .before .before .before .before .before .enum-told2 .given .1) _ (c .before .before .before .before .before .line-of .ensures) _ (c .before .before .before .line .given .1) _ (c .before .one-more2 .ensures) _ (l .inv .1 .0) _ (c .begin2 .ensures)))
+    (l .inv .0, (l .inv .1 .0, feeds-line (a .piece .now) (l .i) (l .lines) (l .records) (l .commas) (l .cells) (l .spot) _ (l .inv .1 .1) _ (c .before .before .before .before .before .before .before .before .before .before .walk-from .ensures) (c .before .before .before .before .before .before .before .enum-told2 .given .1) _ (c .before .before .before .before .before .line-of .ensures) _ (c .before .before .before .line .given .1) _ (c .before .one-more2 .ensures) _ (l .inv .1 .0) _ (c .begin2 .ensures)))
 
 enum-told-4 : tie.Need-enum-told-4 Inv-loop μ-loop
 enum-told-4 c = search needs
@@ -120,7 +121,7 @@ stop-requires-2 c κs = search needs
 returns-3 : tie.Need-returns-3 Inv-loop μ-loop
 returns-3 c = let a = c .before .before .before .before .before .before .before .before .before .before .before .before .before .before .args in
     let l = c .before .before .before .before .before .before .loop in
-    feeds-broken (a .piece .now) (l .i) (l .lines) (l .records) (l .commas) (l .cells) (l .spot) _ (l .inv .1 .1) (omega arith) _ (c .before .before .before .step .ensures) (c .before .enum-told4 .given .1) _ (c .stop2 .ensures) ∙ ap (λ f. fedOf f (a .piece .now)) (opened (a .state) (c .before .before .before .before .before .before .before .before .before .before .before .if1 .left))
+    feeds-broken (a .piece .now) (l .i) (l .lines) (l .records) (l .commas) (l .cells) (l .spot) _ (l .inv .1 .1) _ (c .before .before .before .before .walk-from .ensures) (c .before .enum-told4 .given .1) _ (c .stop2 .ensures) ∙ ap (λ f. fedOf f (a .piece .now)) (opened (a .state) (c .before .before .before .before .before .before .before .before .before .before .before .if1 .left))
 
 returns-4 : tie.Need-returns-4 Inv-loop μ-loop
 returns-4 c = let a = c .before .before .before .before .before .before .before .before .before .args in
@@ -136,10 +137,8 @@ feed-spec =
     returns
     none-requires
     loop-holds
-    shared-slice-read-c
-    add-i
-    step-requires
-    enum-known-next
+    walk-from-requires
+    enum-known-step
     loop-less
     loop-again
     enum-told

@@ -79,7 +79,7 @@ static void import_text(void) {
     static plan p;
     size_t n = read_full(text_room, sizeof text_room);
     imported found = import(text_room, n, &p);
-    if (n == sizeof text_room) fprintf(stderr, "usage: a text for import has at most 262144 bytes.\n");
+    if (n == sizeof text_room) fprintf(stderr, "plain import: more than 262144 bytes are not held.\n");
     else if (found.number) fprintf(stderr, "import %u %zu\n", found.number, found.line);
     else write_file(&p);
 }

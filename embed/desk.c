@@ -103,9 +103,7 @@ static int on_file(const char *verb, uint32_t projection) {
   size_t length;
   int status = 2;
   uint8_t *file = read_all(&length);
-  if (strcmp(verb, "import") == 0 && length > 262144) {
-    fprintf(stderr, "usage: a text for import has at most 262144 bytes.\n");
-  } else if (strcmp(verb, "test") == 0) status = test(file, length);
+  if (strcmp(verb, "test") == 0) status = test(file, length);
   else if (strcmp(verb, "worst") == 0) status = worst(file, length);
   else if (strcmp(verb, "day") == 0) status = day_of(file, length, projection);
   else if (strcmp(verb, "import") == 0) status = import(file, length);

@@ -636,12 +636,12 @@ fn noise(draw: &mut Draw) -> Vec<Ask> {
 }
 
 const LARGE: [(&str, usize); 6] = [
-    ("262,144 bytes", 0),
-    ("262,145 bytes", 8),
-    ("262,145 bytes, the first line bad", 8),
-    ("16,384 records", 0),
-    ("16,385 records", 8),
-    ("16,385 records, and then a bad line", 1),
+    ("65,536 bytes", 0),
+    ("65,537 bytes", 8),
+    ("65,537 bytes, the first line bad", 8),
+    ("4,096 records", 0),
+    ("4,097 records", 8),
+    ("4,097 records, and then a bad line", 1),
 ];
 
 fn large(draw: &mut Draw) -> Vec<Ask> {

@@ -13,7 +13,9 @@ const COLUMNS: usize = 6;
 /// The largest pond code of the shape.
 const CODES: u32 = 6_760_000;
 /// Kinds of batches.
-pub const KINDS: usize = 22;
+pub const KINDS: usize = 23;
+/// `desk import` reads so many bytes at once.
+const PIECE: usize = 16_384;
 
 /// A text as the fields of its lines, as they stand there, quotes included; CR LF between the lines.
 #[derive(Clone)]
@@ -181,6 +183,7 @@ pub fn batch(draw: &mut Draw, kind: usize) -> Vec<Ask> {
         18 => one_long_line(draw),
         19 => noise(draw),
         20 => each_cut(draw),
+        21 => pieces(draw),
         _ => each_byte(draw),
     }
 }
@@ -741,7 +744,7 @@ fn long(draw: &mut Draw) -> Vec<Ask> {
     }
     let mut text = full;
     let last = text.lines[text.lines.len() - 1].clone();
-    text.lines.resize(draw.pick(&[1_130, 2_000, 4_000]), last);
+    text.lines.resize(draw.pick(&[1_130, 4_000, 18_000]), last);
     if let Some(last) = text.lines.last_mut() {
         last[draw.below(COLUMNS)] = b"x".to_vec();
     }
@@ -750,9 +753,9 @@ fn long(draw: &mut Draw) -> Vec<Ask> {
     asks
 }
 
-/// One long line, as long as `desk import` takes it.
+/// One long line, of up to two megabytes.
 fn one_long_line(draw: &mut Draw) -> Vec<Ask> {
-    let size = draw.pick(&[30_000, 60_000, 110_001]);
+    let size = draw.pick(&[30_000, 110_001, 300_000, 2_000_003]);
     let zeros = b"0".repeat(size);
     let mut good = sheet(draw);
     good.lines[0][2] = [b"-", &zeros[..]].concat();
@@ -774,6 +777,43 @@ fn one_long_line(draw: &mut Draw) -> Vec<Ask> {
         ask("import", &what, bytes, vec![case("one long line")])
     });
     asked.collect()
+}
+
+/// What stands at the end of a piece: the bytes, and how many of them are the piece's.
+const CUTS: [(&str, &[u8], usize); 4] = [
+    ("CR at the end of a piece", b"\r\n", 1),
+    ("CR LF at the end of a piece", b"\r\n", 2),
+    ("a quote at the end of a piece", b"\"", 1),
+    ("a comma at the end of a piece", b",", 1),
+];
+
+/// Bytes that mean something where the next piece is read, and now and then the text ends there.
+fn pieces(draw: &mut Draw) -> Vec<Ask> {
+    let mut asks = Vec::new();
+    for (what, bytes, own) in CUTS {
+        let mut text = sheet(draw);
+        text.ended = true;
+        text.lines[0][COLUMNS - 1] = quoted(b"AA0001");
+        let with_zeros = |zeros: usize| {
+            let mut text = text.clone();
+            text.lines[0][2] = [b"-", &b"0".repeat(zeros)[..]].concat();
+            text.bytes()
+        };
+        // Behind the zeros of the first line.
+        let plain = with_zeros(1);
+        let from = text.lines[0][..2].join(&b',').len() + 2;
+        let places: Vec<usize> = (from..plain.len())
+            .filter(|&at| plain[at..].starts_with(bytes))
+            .collect();
+        let at = draw.pick(&places) + own;
+        let more = draw.pick(&[1, 2]) * PIECE - at % PIECE;
+        let mut input = with_zeros(1 + more);
+        if draw.one_in(4) {
+            input.truncate(at + more);
+        }
+        asks.push(ask("import", what, input, vec![case(what)]));
+    }
+    asks
 }
 
 /// Bytes that mean something, in any order, alone or in a good text.
@@ -891,6 +931,10 @@ pub fn cases() -> Vec<String> {
         "1,129 lines",
         "a bad line past the room",
         "one long line",
+        "CR at the end of a piece",
+        "CR LF at the end of a piece",
+        "a quote at the end of a piece",
+        "a comma at the end of a piece",
         "a cut at each byte",
         "a byte changed",
     ]

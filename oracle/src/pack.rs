@@ -3,8 +3,8 @@
 //! its words from left to right.
 
 /// How long a listing may be, and how many records it may make.
-pub const LONGEST: usize = 262_144;
-pub const MOST: usize = 16_384;
+pub const LONGEST: usize = 65_536;
+pub const MOST: usize = 4_096;
 
 /// What was expected, by its number from 1 on.
 pub const EXPECTED: [&str; 7] = [
@@ -19,7 +19,7 @@ pub const EXPECTED: [&str; 7] = [
 
 /// The line about a listing that is too long or makes too much.
 pub const TOO_MUCH: &str =
-    "usage: a listing for pack has at most 262144 bytes and makes at most 16384 records.";
+    "usage: a listing for pack has at most 65536 bytes and makes at most 4096 records.";
 
 pub type Record = [u8; 16];
 

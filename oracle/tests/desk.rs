@@ -274,7 +274,7 @@ fn the_packed_listing() {
         said("pack: expected none or a point, 0 to 254, at line 3\n", 1)
     );
     let usage =
-        "usage: a listing for pack has at most 262144 bytes and makes at most 16384 records.\n";
-    assert_eq!(refused(&b"mark\n".repeat(16_385)), said(usage, 2));
-    assert_eq!(refused(&[b'x'; 262_145]), said(usage, 2));
+        "usage: a listing for pack has at most 65536 bytes and makes at most 4096 records.\n";
+    assert_eq!(refused(&b"mark\n".repeat(4_097)), said(usage, 2));
+    assert_eq!(refused(&[b'x'; 65_537]), said(usage, 2));
 }

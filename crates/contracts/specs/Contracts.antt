@@ -20,6 +20,9 @@ use Rattle.plan.proofs.links_of.Reads as links-of-code
 use Rattle.plan.proofs.link_to.Reads as link-to-code
 use Rattle.plan.proofs.is_watched.Reads as is-watched-code
 use Rattle.office.proofs.import.Reads as import-code
+use Rattle.office.proofs.begin.Reads as begin-text-code
+use Rattle.office.proofs.feed.Reads as feed-code
+use Rattle.office.proofs.finish.Reads as finish-code
 use Rattle.bounds.proofs.bound_kept.Reads as bound-kept-code
 use Rattle.bounds.proofs.both_in.Reads as both-in-code
 use Rattle.board.proofs.fresh.Reads as fresh-code
@@ -114,6 +117,9 @@ pub record SingleReplies : Type 0 where
   pub is-watched : Single is-watched-code.Pre is-watched-code.Post
   -- office
   pub import : Single import-code.Pre import-code.Post
+  pub begin-text : Single begin-text-code.Pre begin-text-code.Post
+  pub feed : Single feed-code.Pre feed-code.Post
+  pub finish : Single finish-code.Pre finish-code.Post
   -- listing
   pub pack : Single pack-code.Pre pack-code.Post
   pub pack-leaves : Leaves pack-code.Post (λ o. o .1 .0 .now)

@@ -1,6 +1,7 @@
 // `desk close`: the file of a plan without watched steps, and that of the plan with every distance as a record. A refusal goes to
 // standard error, and nothing is written.
 use crate::input::plan_in;
+use crate::input::plan_room;
 use crate::made::write_plan;
 use crate::say::say;
 use closure::close;
@@ -8,7 +9,7 @@ use libc::STDERR_FILENO;
 use plan::ACCEPTED;
 
 pub(crate) fn run() {
-    let mut room = io::large_buffer();
+    let mut room = plan_room();
     let reading = plan_in(&mut room);
     if reading.number != ACCEPTED {
         return say(

@@ -1,5 +1,6 @@
 // `desk day N`: a plan file, and that file, the mark and the events of projection N's run: what `sheet` and `offers` read. A refusal goes
 // to standard error, and nothing is written.
+use crate::input::plan_room;
 use crate::input::read_all;
 use crate::say::say;
 use libc::STDERR_FILENO;
@@ -32,7 +33,7 @@ fn write_day(plan: Plan, front: &[u8], length: u64, projection: u32) {
 }
 
 pub(crate) fn run(projection: u32) {
-    let mut room = io::large_buffer();
+    let mut room = plan_room();
     let front: &mut [u8] = &mut room;
     let length = read_all(front);
     let reading = read_front(length, front);

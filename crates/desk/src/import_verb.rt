@@ -1,35 +1,42 @@
 // `desk import`: comma-separated text from the growers' office, and the plan file that it says. A refusal goes to standard error with
-// its line, and nothing is written. A text is held whole, so one that is longer than any sheet is wrong usage.
-use crate::input::TEXT_ROOM;
-use crate::input::read_all;
-use crate::input::text_room;
+// its line, and nothing is written. The text is fed to the importer a piece at a time, so it may be of any length.
+use crate::input::piece_room;
 use crate::made::write_plan;
 use crate::say::say;
 use libc::STDERR_FILENO;
-use office::import;
+use libc::STDIN_FILENO;
+use office::Feeding;
+use office::Imported;
+use office::begin;
+use office::feed;
+use office::finish;
 use plan::ACCEPTED;
-use stream::within;
 
-const TOO_LONG: [u8; 51] = *b"usage: a text for import has at most 262144 bytes.\n";
+// What is known after all of the input.
+fn fed(room: &mut [u8]) -> Feeding {
+    let mut state = begin();
+    let mut turns = u64::MAX;
+    while turns > 0 {
+        let n = io::read_full(STDIN_FILENO, room);
+        state = feed(state, &room[..n]);
+        if n < room.len() {
+            break;
+        }
+        turns -= 1;
+    }
+    state
+}
 
-// What the first so many bytes say.
-fn imported(text: &[u8], length: usize) {
-    let n = within(length, text);
-    let answer = import(&text[..n]);
+fn imported() -> Imported {
+    let mut room = piece_room();
+    finish(fed(&mut room))
+}
+
+pub(crate) fn run() {
+    let answer = imported();
     if answer.number != ACCEPTED {
         let line = answers::import_refused(answer.number, answer.line as u64);
         return say(STDERR_FILENO, line);
     }
     write_plan(answer.plan)
-}
-
-pub(crate) fn run() {
-    let mut room = text_room();
-    let text: &mut [u8] = &mut room;
-    let length = read_all(text);
-    if (TEXT_ROOM as u64) < length {
-        io::write_all(STDERR_FILENO, &TOO_LONG);
-        return;
-    }
-    imported(text, length as usize)
 }

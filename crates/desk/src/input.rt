@@ -2,6 +2,8 @@
 ghost use mathlib.Core.Path.{_≡_};
 ghost use lib.ListN.{length};
 use libc::STDIN_FILENO;
+use plan::MOST_RECORDS;
+use plan::RECORD_BYTES;
 use plan::Reading;
 use std::num::wrapping_add_u64;
 use stream::read_front;
@@ -27,7 +29,7 @@ pub(crate) fn read_all(front: &mut [u8]) -> u64 {
     if n < front.len() {
         return n as u64;
     }
-    let mut room = io::large_buffer();
+    let mut room = piece_room();
     wrapping_add_u64(n as u64, pass_over(&mut room))
 }
 
@@ -37,12 +39,19 @@ pub(crate) fn plan_in(front: &mut [u8]) -> Reading {
     read_front(length, front)
 }
 
-// The longest text or listing, which is held whole.
-pub(crate) const TEXT_ROOM: usize = 262144;
+// So many bytes are read at once where the input is not held.
+const PIECE: usize = 16384;
 
-// Room for it. The `ensures` gives only the length, which lending it as a slice needs.
-pub(crate) fn text_room() -> [u8; TEXT_ROOM]
-    ensures { λ r. ⌜ 262144 ≡ length r ⌝ }
+// Room for them. The `ensures` gives only the length, which lending it as a slice needs.
+pub(crate) fn piece_room() -> [u8; PIECE]
+    ensures { λ r. ⌜ 16384 ≡ length r ⌝ }
 {
-    [0; TEXT_ROOM]
+    [0; PIECE]
+}
+
+// Room for the front of a plan file: all of one, or of a longer one as much as its refusal needs. The `ensures` gives only the length.
+pub(crate) fn plan_room() -> [u8; RECORD_BYTES * (MOST_RECORDS + 2)]
+    ensures { λ r. ⌜ 18080 ≡ length r ⌝ }
+{
+    [0; RECORD_BYTES * (MOST_RECORDS + 2)]
 }

@@ -1,6 +1,7 @@
 // `desk lighter`: a plan file, and that of the plan without the records that it does not need; on standard error `dropped N` for each
 // that went, by its number in the plan as it came in. A refusal goes to standard error, and nothing is written.
 use crate::input::plan_in;
+use crate::input::plan_room;
 use crate::made::write_plan;
 use crate::say::say;
 use libc::STDERR_FILENO;
@@ -21,7 +22,7 @@ fn say_dropped(made: Lighter) {
 }
 
 pub(crate) fn run() {
-    let mut room = io::large_buffer();
+    let mut room = plan_room();
     let reading = plan_in(&mut room);
     if reading.number != ACCEPTED {
         return say(

@@ -1,6 +1,7 @@
 // `desk list`: a plan file, and its records as the lines of a listing, which `desk pack` packs to the same file. A refusal goes to
 // standard error, and nothing is written.
 use crate::input::plan_in;
+use crate::input::plan_room;
 use crate::say::say;
 use libc::STDERR_FILENO;
 use libc::STDOUT_FILENO;
@@ -21,7 +22,7 @@ fn say_records(plan: Plan) {
 }
 
 pub(crate) fn run() {
-    let mut room = io::large_buffer();
+    let mut room = plan_room();
     let reading = plan_in(&mut room);
     if reading.number != ACCEPTED {
         return say(

@@ -1,9 +1,7 @@
 // `desk pack`: a listing typed by people, and the records that it says, as the other verbs, `sheet` and `offers` read them. Nothing is
 // written unless every line is good; else standard error has the first bad line, counted from 1, and what was expected there. A listing
 // is held whole, so one that is longer than any day is wrong usage.
-use crate::input::TEXT_ROOM;
 use crate::input::read_all;
-use crate::input::text_room;
 use crate::say::say;
 use libc::STDERR_FILENO;
 use libc::STDOUT_FILENO;
@@ -28,8 +26,11 @@ const A_POINT_OR_NONE: [u8; 45] = *b"pack: expected none or a point, 0 to 254, a
 
 const A_SET: [u8; 51] = *b"pack: expected none or points below 32, as 2,4, at ";
 
-const TOO_LONG: [u8; 84] =
-    *b"usage: a listing for pack has at most 262144 bytes and makes at most 16384 records.\n";
+// The longest listing: what `large_buffer` of `io` holds, and so for its records.
+const TEXT_ROOM: u64 = 65536;
+
+const TOO_LONG: [u8; 82] =
+    *b"usage: a listing for pack has at most 65536 bytes and makes at most 4096 records.\n";
 
 // What was expected, in words; nothing for a number that is none.
 fn say_expected(number: u32) -> bool {
@@ -58,7 +59,7 @@ fn refused(answer: Packed) {
 
 // What the first so many bytes say.
 fn packed(text: &[u8], length: usize) {
-    let mut room = text_room();
+    let mut room = io::large_buffer();
     let n = within(length, text);
     let answer = pack(&text[..n], &mut room);
     if answer.number != ACCEPTED {
@@ -69,10 +70,10 @@ fn packed(text: &[u8], length: usize) {
 }
 
 pub(crate) fn run() {
-    let mut room = text_room();
+    let mut room = io::large_buffer();
     let text: &mut [u8] = &mut room;
     let length = read_all(text);
-    if (TEXT_ROOM as u64) < length {
+    if TEXT_ROOM < length {
         io::write_all(STDERR_FILENO, &TOO_LONG);
         return;
     }

@@ -1,11 +1,12 @@
 // `desk test`: a plan file, and the plan test's answer to it.
 use crate::input::plan_in;
+use crate::input::plan_room;
 use crate::say::say;
 use libc::STDOUT_FILENO;
 use plan::ACCEPTED;
 
 pub(crate) fn run() {
-    let mut room = io::large_buffer();
+    let mut room = plan_room();
     let reading = plan_in(&mut room);
     if reading.number != ACCEPTED {
         return say(

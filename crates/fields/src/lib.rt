@@ -1,13 +1,11 @@
-// Fields of comma-separated text: one field from a place in a text on, quoting as RFC 4180 has it. Document 02, §1; specs/ states
-// it for one line. What a field says comes from the room below, `values`. An inner room: it serves `office`. `field_at` asks
-// nothing of a caller: the text may be any bytes, of any length.
+// Fields of comma-separated text, a byte at a time: where in a field a place is and what is kept of the field, quoting as RFC 4180
+// has it. Document 02, §1; specs/ states it for one line. A byte is never looked at before it comes, so a text may come in pieces:
+// a CR is kept as one until the byte behind it. What a field says comes from the room below, `values`. An inner room: it serves
+// `office`. Nothing is asked of a caller.
 ghost use mathlib.Core.Path.{_≡_};
-ghost use Prim.Native.Nat.{_+_, _^_, _<_};
 ghost use lib.ListN.{drop};
-ghost use Rattle.values.specs.Inside.{fresh};
 ghost use Rattle.fields.specs.Quoting.{bareAct, quotedAct, closedAct, actOf};
-ghost use Rattle.fields.specs.Inside.{endsLine, endStep, stepOf, stopped, stoppedAtEnd, fieldFrom};
-ghost use Rattle.fields.specs.declared.Place.the-variants.{Begin};
+ghost use Rattle.fields.specs.Inside.{beginning, isAtBegin, endStep, behindCr, kept, stepOf, mayEnd, walkFrom};
 use values::Seen;
 
 const QUOTE: u8 = 34;
@@ -35,20 +33,19 @@ pub enum Act {
     Break,
 }
 
+// Where a text is: the place in a field, what is known of the field, and whether a CR stands in front of what is next.
+pub struct Spot {
+    pub place: Place,
+    pub seen: Seen,
+    pub turned: bool,
+}
+
 // A byte further in the field, or how the field stopped.
 pub enum Step {
-    On(Place, Seen),
+    On(Spot),
     Comma,
     Ends,
     Broken,
-}
-
-// A field and the place in the text behind it: behind its comma, or behind its line's end where it was the line's last. Or its
-// quoting is broken.
-pub enum Field {
-    Behind(Seen, usize),
-    Last(Seen, usize),
-    Unquoted,
 }
 
 // Outside quotes.
@@ -107,22 +104,6 @@ fn act_at(place: Place, c: u8) -> Act
     }
 }
 
-// Whether a line's end, CR LF, stands at a place of the text.
-fn ends_line(text: &[u8], at: usize) -> bool
-    ensures { λ t. ⌜ t ≡ endsLine (drop at (now (text .entry))) ⌝ }
-{
-    if text.len() <= at {
-        return false;
-    }
-    if text[at] != CR {
-        return false;
-    }
-    if text.len() <= at + 1 {
-        return false;
-    }
-    text[at + 1] == LF
-}
-
 // A line's end at a place in a field: inside quotes it breaks the quoting.
 fn end_at(place: Place) -> Step
     ensures { λ r. ⌜ r ≡ endStep place ⌝ }
@@ -135,63 +116,116 @@ fn end_at(place: Place) -> Step
     }
 }
 
-// One byte further; `ends` where a line's end stands there.
-fn one_step(place: Place, seen: Seen, c: u8, ends: bool) -> Step
-    ensures { λ r. ⌜ r ≡ stepOf place seen c ends ⌝ }
+// The byte behind a CR: an LF ends the line, and any other leaves the CR alone, which breaks the quoting.
+fn behind_cr(place: Place, c: u8) -> Step
+    ensures { λ r. ⌜ r ≡ behindCr place c ⌝ }
 {
-    if ends {
+    if c == LF {
         return end_at(place);
     }
-    match act_at(place, c) {
-        Act::Keep(p) => Step::On(p, seen.with(c)),
-        Act::Skip(p) => Step::On(p, seen),
-        Act::Cut => Step::Comma,
-        Act::Break => Step::Broken,
+    Step::Broken
+}
+
+fn at(place: Place, seen: Seen, turned: bool) -> Step
+    ensures { λ r. ⌜ r ≡ kept place seen turned ⌝ }
+{
+    Step::On(Spot {
+        place: place,
+        seen: seen,
+        turned: turned,
+    })
+}
+
+impl Spot {
+    // Where a field begins.
+    pub fn begin() -> Self
+        ensures { λ s. ⌜ s ≡ beginning ⌝ }
+    {
+        let none = Seen::none();
+        Spot {
+            place: Place::Begin,
+            seen: none,
+            turned: false,
+        }
+    }
+
+    // Whether no byte of the field has come yet.
+    pub fn is_at_begin(self) -> bool
+        ensures { λ t. ⌜ t ≡ isAtBegin self ⌝ }
+    {
+        let place = self.place;
+        match place {
+            Place::Begin => !self.turned,
+            Place::Bare => false,
+            Place::Quoted => false,
+            Place::Closed => false,
+        }
+    }
+
+    // One byte further.
+    pub fn step(self, c: u8) -> Step
+        ensures { λ r. ⌜ r ≡ stepOf self c ⌝ }
+    {
+        let place = self.place;
+        let seen = self.seen;
+        if self.turned {
+            return behind_cr(place, c);
+        }
+        if c == CR {
+            return at(place, seen, true);
+        }
+        match act_at(place, c) {
+            Act::Keep(p) => at(p, seen.with(c), false),
+            Act::Skip(p) => at(p, seen, false),
+            Act::Cut => Step::Comma,
+            Act::Break => Step::Broken,
+        }
+    }
+
+    // Whether the text may end here: not inside quotes, and not behind a CR.
+    pub fn may_end(self) -> bool
+        ensures { λ t. ⌜ t ≡ mayEnd self ⌝ }
+    {
+        let place = self.place;
+        match place {
+            Place::Begin => !self.turned,
+            Place::Bare => !self.turned,
+            Place::Quoted => false,
+            Place::Closed => !self.turned,
+        }
     }
 }
 
-// The field that stopped at byte i.
-fn stop_at(step: Step, seen: Seen, i: usize) -> Field
-    requires { ⌜ i + 2 < 2 ^ 64 ⌝ }
-    ensures { λ f. ⌜ f ≡ stopped step seen i ⌝ }
-{
-    match step {
-        Step::On(_, _) => Field::Unquoted,
-        Step::Comma => Field::Behind(seen, i + 1),
-        Step::Ends => Field::Last(seen, i + 2),
-        Step::Broken => Field::Unquoted,
-    }
+// What stopped a field, where it was then, and the place behind; or the end of the piece.
+pub struct Walk {
+    pub spot: Spot,
+    pub step: Step,
+    pub next: usize,
 }
 
-// The field at the end of the text.
-fn stop_at_end(place: Place, seen: Seen, i: usize) -> Field
-    ensures { λ f. ⌜ f ≡ stoppedAtEnd place seen i ⌝ }
+// From a place in a piece on, as far as the field goes.
+pub fn walk_from(piece: &[u8], at: usize, spot: Spot) -> Walk
+    ensures { λ w. ⌜ w ≡ walkFrom spot at (drop at (now (piece .entry))) ⌝ }
 {
-    match place {
-        Place::Begin => Field::Last(seen, i),
-        Place::Bare => Field::Last(seen, i),
-        Place::Quoted => Field::Unquoted,
-        Place::Closed => Field::Last(seen, i),
-    }
-}
-
-// The field of a text that begins at a place.
-pub fn field_at(text: &[u8], at: usize) -> Field
-    ensures { λ f. ⌜ f ≡ fieldFrom Begin fresh at (drop at (now (text .entry))) ⌝ }
-{
-    let n = text.len();
-    let mut place = Place::Begin;
-    let mut seen = Seen::none();
+    let n = piece.len();
+    let mut here = spot;
     let mut i = at;
     while i < n {
-        let c = text[i];
-        let step = one_step(place, seen, c, ends_line(text, i));
-        let Step::On(next, more) = step else {
-            return stop_at(step, seen, i);
+        let c = piece[i];
+        let step = here.step(c);
+        let Step::On(next) = step else {
+            return Walk {
+                spot: here,
+                step: step,
+                next: i + 1,
+            };
         };
-        place = next;
-        seen = more;
+        here = next;
         i += 1;
     }
-    stop_at_end(place, seen, i)
+    Walk {
+        spot: here,
+        step: Step::On(here),
+        next: i,
+    }
 }

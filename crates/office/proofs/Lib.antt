@@ -2,10 +2,11 @@
 mod ACase
 mod ALines
 mod Lines
-mod Cutting
 mod Filling
 mod Rows
-mod Imports
+mod Judged
+pub mod Fed
+mod Feeds
 mod Finishing
 pub mod Growers
 pub mod Sayable

@@ -17,7 +17,7 @@ use Rattle.office.specs.Inside.{firstLine, endFrom}
 use Rattle.office.proofs.ALines.{none-left}
 
 -- a line's end is a CR before an LF
-ends-is : (c : ℕ) (s : List ℕ) → endsLine (c ∷ s) ≡ (eqb c cr && beginsLf s)
+pub ends-is : (c : ℕ) (s : List ℕ) → endsLine (c ∷ s) ≡ (eqb c cr && beginsLf s)
 unfolding endsLine beginsLf
 ends-is c [] = go (eqb c cr)
   where

@@ -33,7 +33,7 @@ use Rattle.plan.proofs.RoundTrip.{records-of-plan}
 use Rattle.plan.proofs.Accepted.{Accepted, accepted-plan}
 use Rattle.office.proofs.ALines.{none-left}
 use Rattle.office.proofs.Lines.{pieces-some}
-use Rattle.office.proofs.Cutting.{byte-field}
+use Rattle.office.proofs.Fed.{byte-field}
 
 -- ---- bytes that stand for themselves
 

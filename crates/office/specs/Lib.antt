@@ -4,3 +4,4 @@ pub mod Sheets
 pub mod Saying
 pub mod Promised
 pub mod Inside
+pub mod Feeding

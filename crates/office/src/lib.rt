@@ -1,16 +1,19 @@
-// Sheets from the growers' office: comma-separated text as a plan. Document 02, §1; specs/ states it in that order. `import` goes
-// over the text once, line by line and field by field, and copies none of it; it takes any bytes, of any length, and answers. The
-// rules for records are those of the file reader, asked of `plan`.
+// Sheets from the growers' office: comma-separated text as a plan. Document 02, §1; specs/ states it in that order. A text may come
+// in pieces, cut anywhere: `begin`, `feed` for each piece, `finish`; `import` takes one that is there whole. Each byte is looked at
+// once, and none is copied; any bytes are taken, of any length, in a room that does not grow. The rules for records are those of the
+// file reader, asked of `plan`.
 ghost use mathlib.Core.Path.{_≡_};
 ghost use mathlib.Core.List.{[]};
-ghost use Prim.Native.Nat.{_+_, _^_, _<_, min};
-ghost use lib.ListN.{drop};
+ghost use Prim.Native.Nat.{_+_, min};
+ghost use lib.ListN.{set};
 ghost use Rattle.plan.specs.APlan.{planOf};
 ghost use Rattle.plan.specs.ReplyNumbers.{refusal};
 ghost use Rattle.office.specs.Sheets.{importOf, refused};
-ghost use Rattle.office.specs.Inside.{lineNumber, lineAt, readableIn, recordIn, lineBy, lastBy, finished};
-use fields::Field;
-use fields::field_at;
+ghost use Rattle.office.specs.Inside.{lineNumber, readableIn, recordIn, lineBy, judged};
+ghost use Rattle.office.specs.Feeding.{begun, lineBegins, stopped, cellsWith, counted, fedOf, lastOf, finishedOf};
+use fields::Spot;
+use fields::Step;
+use fields::walk_from;
 use plan::ACCEPTED;
 use plan::MOST_RECORDS;
 use plan::Plan;
@@ -21,6 +24,8 @@ use values::Seen;
 
 // A kind word, two points, two numbers, a pond code.
 const COLUMNS: usize = 6;
+
+const COMMAS: usize = 5;
 
 // The reply numbers of a line; 0 for what is not refused, and those of the plan that the lines make, are those of `plan`.
 pub const BROKEN_QUOTING: u32 = 40;
@@ -38,9 +43,20 @@ pub struct Imported {
     pub plan: Plan,
 }
 
-// A line's record and the place behind it, or the number that it is refused with.
+// What is known of a text that has come so far: a number and the first bad line, which stand; or number 0, the lines that are whole
+// and their records, and of the line that has begun its commas, its columns and where it is.
+pub struct Feeding {
+    pub number: u32,
+    pub lines: usize,
+    pub records: [Record; MOST_RECORDS],
+    pub commas: usize,
+    pub cells: [Seen; COLUMNS],
+    pub spot: Spot,
+}
+
+// A line's record, or the number that it is refused with.
 enum Line {
-    Good(Record, usize),
+    Good(Record),
     Bad(u32),
 }
 
@@ -76,11 +92,11 @@ fn record_by(cells: [Seen; COLUMNS]) -> Record
     }
 }
 
-// A line of so many columns that ends before `next`.
-fn line_by(columns: usize, cells: [Seen; COLUMNS], next: usize) -> Line
-    ensures { λ r. ⌜ r ≡ lineBy columns cells next ⌝ }
+// A line of so many commas.
+fn line_by(commas: usize, cells: [Seen; COLUMNS]) -> Line
+    ensures { λ r. ⌜ r ≡ lineBy commas cells ⌝ }
 {
-    if columns != COLUMNS {
+    if commas != COMMAS {
         return Line::Bad(COLUMN_COUNT);
     }
     if !is_readable(cells) {
@@ -90,48 +106,32 @@ fn line_by(columns: usize, cells: [Seen; COLUMNS], next: usize) -> Line
     if !pond.is_code() {
         return Line::Bad(NO_CODE);
     }
-    Line::Good(record_by(cells), next)
+    Line::Good(record_by(cells))
 }
 
-// A line whose last field is this one, behind so many others.
-fn last_by(field: Field, columns: usize, cells: [Seen; COLUMNS]) -> Line
-    requires { ⌜ columns + 1 < 2 ^ 64 ⌝ }
-    ensures { λ r. ⌜ r ≡ lastBy field columns cells ⌝ }
+// A line whose last column is this one, behind so many commas.
+fn line_of(commas: usize, cells: [Seen; COLUMNS], seen: Seen) -> Line
+    ensures { λ r. ⌜ r ≡ lineBy commas (cellsWith commas cells seen) ⌝ }
 {
-    let Field::Last(seen, next) = field else {
-        return Line::Bad(BROKEN_QUOTING);
-    };
     let mut all = cells;
-    all[columns % COLUMNS] = seen;
-    line_by(columns + 1, all, next)
-}
-
-// The line of a text that begins at a place. Columns past the sixth take the room of others, since the line is then refused.
-fn line_at(text: &[u8], at: usize) -> Line
-    ensures { λ r. ⌜ r ≡ lineAt at (drop at (now (text .entry))) ⌝ }
-{
-    let none = Seen::none();
-    let mut cells = [none; COLUMNS];
-    let mut columns: usize = 0;
-    let mut from = at;
-    loop {
-        let field = field_at(text, from);
-        let Field::Behind(seen, next) = field else {
-            return last_by(field, columns, cells);
-        };
-        cells[columns % COLUMNS] = seen;
-        columns += 1;
-        from = next;
-    }
+    all[commas % COLUMNS] = seen;
+    line_by(commas, all)
 }
 
 fn number_in(line: Line) -> u32
     ensures { λ n. ⌜ n ≡ lineNumber line ⌝ }
 {
     match line {
-        Line::Good(_, _) => ACCEPTED,
+        Line::Good(_) => ACCEPTED,
         Line::Bad(n) => n,
     }
+}
+
+// One more, and the most that there is room for where there are more.
+fn one_more(n: usize, most: usize) -> usize
+    ensures { λ r. ⌜ r ≡ min (n + 1) most ⌝ }
+{
+    if n < most { n + 1 } else { most }
 }
 
 fn refuse(number: u32, line: usize) -> Imported
@@ -156,8 +156,8 @@ fn at_most(x: usize, most: usize) -> usize
 }
 
 // The plan of so many records, judged as the file reader does.
-fn finish(records: [Record; MOST_RECORDS], count: usize) -> Imported
-    ensures { λ r. ⌜ r ≡ finished count records ⌝ }
+fn judge(records: [Record; MOST_RECORDS], count: usize) -> Imported
+    ensures { λ r. ⌜ r ≡ judged count records ⌝ }
 {
     let plan = Plan {
         count: at_most(count, MOST_RECORDS + 1) as u32,
@@ -174,23 +174,143 @@ fn finish(records: [Record; MOST_RECORDS], count: usize) -> Imported
     }
 }
 
-// Imports a text: the plan with a record for each line, or the number and the first bad line. Records that there is no room for
-// take the room of others, since the plan is then refused.
+// Where a line begins, behind so many others.
+fn at_line(records: [Record; MOST_RECORDS], lines: usize) -> Feeding
+    ensures { λ f. ⌜ f ≡ lineBegins lines records ⌝ }
+{
+    let none = Seen::none();
+    let cells = [none; COLUMNS];
+    let spot = Spot::begin();
+    Feeding {
+        number: ACCEPTED,
+        lines: lines,
+        records: records,
+        commas: 0,
+        cells: cells,
+        spot: spot,
+    }
+}
+
+// A bad line stops it.
+fn stop(number: u32, line: usize) -> Feeding
+    ensures { λ f. ⌜ f ≡ stopped number line ⌝ }
+{
+    let records = no_records();
+    let none = Seen::none();
+    let cells = [none; COLUMNS];
+    let spot = Spot::begin();
+    Feeding {
+        number: number,
+        lines: line,
+        records: records,
+        commas: 0,
+        cells: cells,
+        spot: spot,
+    }
+}
+
+// Nothing of a text yet.
+pub fn begin() -> Feeding
+    ensures { λ f. ⌜ f ≡ begun ⌝ }
+{
+    at_line(no_records(), 0)
+}
+
+// With a piece more of the text. Columns past the sixth, and records that there is no room for, take the room of others, since the
+// line, or the plan, is then refused.
+pub fn feed(state: Feeding, piece: &[u8]) -> Feeding
+    ensures { λ f. ⌜ f ≡ fedOf state (now (piece .entry)) ⌝ }
+{
+    if state.number != ACCEPTED {
+        return state;
+    }
+    let none = Seen::none();
+    let n = piece.len();
+    let mut lines = state.lines;
+    let mut records = state.records;
+    let mut commas = state.commas;
+    let mut cells = state.cells;
+    let mut spot = state.spot;
+    let mut i: usize = 0;
+    while i < n {
+        let gone = walk_from(piece, i, spot);
+        let here = gone.spot;
+        let step = gone.step;
+        i = gone.next;
+        match step {
+            Step::On(next) => {
+                spot = next;
+            }
+            Step::Comma => {
+                let seen = here.seen;
+                cells[commas % COLUMNS] = seen;
+                commas = one_more(commas, COLUMNS);
+                spot = Spot::begin();
+            }
+            Step::Ends => {
+                let seen = here.seen;
+                let line = line_of(commas, cells, seen);
+                let Line::Good(r) = line else {
+                    return stop(number_in(line), lines);
+                };
+                records[lines % MOST_RECORDS] = r;
+                lines = one_more(lines, usize::MAX);
+                commas = 0;
+                cells = [none; COLUMNS];
+                spot = Spot::begin();
+            }
+            Step::Broken => {
+                return stop(BROKEN_QUOTING, lines);
+            }
+        }
+    }
+    Feeding {
+        number: ACCEPTED,
+        lines: lines,
+        records: records,
+        commas: commas,
+        cells: cells,
+        spot: spot,
+    }
+}
+
+// With a last line that lacks its CR LF.
+fn last_line(state: Feeding) -> Feeding
+    ensures { λ f. ⌜ f ≡ lastOf state ⌝ }
+{
+    let spot = state.spot;
+    if (state.number != ACCEPTED) | (spot.is_at_begin() & (state.commas == 0)) {
+        return state;
+    }
+    let lines = state.lines;
+    if !spot.may_end() {
+        return stop(BROKEN_QUOTING, lines);
+    }
+    let cells = state.cells;
+    let line = line_of(state.commas, cells, spot.seen);
+    let Line::Good(r) = line else {
+        return stop(number_in(line), lines);
+    };
+    let mut records = state.records;
+    records[lines % MOST_RECORDS] = r;
+    at_line(records, one_more(lines, usize::MAX))
+}
+
+// The text has ended: the plan with a record for each line, or the number and the first bad line.
+pub fn finish(state: Feeding) -> Imported
+    ensures { λ r. ⌜ r ≡ finishedOf state ⌝ }
+{
+    let last = last_line(state);
+    if last.number != ACCEPTED {
+        return refuse(last.number, last.lines);
+    }
+    let records = last.records;
+    judge(records, last.lines)
+}
+
+// Imports a text that is there whole.
 pub fn import(text: &[u8]) -> Imported
     ensures { λ r. ⌜ r ≡ importOf (now (text .entry)) ⌝ }
 {
-    let n = text.len();
-    let mut records = no_records();
-    let mut lines: usize = 0;
-    let mut at: usize = 0;
-    while at < n {
-        let line = line_at(text, at);
-        let Line::Good(r, next) = line else {
-            return refuse(number_in(line), lines);
-        };
-        records[lines % MOST_RECORDS] = r;
-        lines += 1;
-        at = next;
-    }
-    finish(records, lines)
+    finish(feed(begin(), text))
 }

@@ -1,44 +1,25 @@
 -- `office::finish` meets its contract. Assumes nothing.
 use Rattle.office.proofs.Finishing.{finish-bad, finish-good}
-use mathlib.Core.Path.{_∙_}
 use native.Mathlib.Omega.{arith}
 use borrow.Author.Needs.{needs}
 use Rattle.office.proofs.finish.Statement.{statement}
 use Rattle.office.proofs.finish.Tie as tie
 
-add-at-most : tie.Need-add-at-most
-add-at-most c = search needs
-
-at-most-requires : tie.Need-at-most-requires
-at-most-requires c κs = search needs
-
-cast-t7 : tie.Need-cast-t7
-cast-t7 c = search needs
-
-check-requires : tie.Need-check-requires
-check-requires c κs = search needs
-
-cast-refuse : tie.Need-cast-refuse
-cast-refuse c = search needs
+last-line-requires : tie.Need-last-line-requires
+last-line-requires c κs = search needs
 
 refuse-requires : tie.Need-refuse-requires
 refuse-requires c κs = search needs
 
 returns : tie.Need-returns
-returns c = c .refuse .ensures ∙ finish-bad _ _ _ (c .before .before .before .before .before .at-most .ensures) _ (c .before .before .before .before .check .ensures) (c .before .before .if1 .taken)
+returns c = finish-bad _ _ (c .before .before .before .last-line .ensures) (c .before .if1 .taken) _ (c .refuse .ensures)
+
+judge-requires : tie.Need-judge-requires
+judge-requires c κs = search needs
 
 returns-2 : tie.Need-returns-2
-returns-2 c = finish-good _ _ _ (c .before .before .before .at-most .ensures) _ (c .before .before .check .ensures) (c .if1 .left)
+returns-2 c = finish-good _ _ (c .before .before .before .before .last-line .ensures) (c .before .before .if1 .left) _ (c .judge .ensures)
 
 pub finish-spec : {M : Type 1} → statement M
 finish-spec =
-    tie.close
-    (tie.spec
-    add-at-most
-    at-most-requires
-    cast-t7
-    check-requires
-    cast-refuse
-    refuse-requires
-    returns
-    returns-2)
+    tie.close (tie.spec last-line-requires refuse-requires returns judge-requires returns-2)

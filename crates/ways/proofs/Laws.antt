@@ -109,15 +109,23 @@ module _ (s w : List ℕ) (q : ℕ) where
   second-of : stepAt s w (2 * q + 1) ≡ stepOf (rowAt s q) q (by w (overAt s q)) true
   second-of = let a : (2 * q + 1) % 2 ≡ 1 = omega arith in rw (odd, a) refl
 
+  pub at-ordinary : kindAt s q ≡ 3 → stepAt s w (2 * q) ≡ stepAs q (fromAt s q) (toAt s q) (firstAt s q) (secondAt s q)
+  at-ordinary k = first-of ∙ sym (step-ordinary (rowAt s q) q (by w (overAt s q)) false refl refl k)
+
+  pub at-wait : kindAt s q ≡ 4 → stepAt s w (2 * q) ≡ stepAs q (fromAt s q) (toAt s q) 0 (min (firstAt s q) (by w (overAt s q)))
+  at-wait k = first-of ∙ sym (step-wait (rowAt s q) q (by w (overAt s q)) false refl refl k refl)
+
+  pub at-there : kindAt s q ≡ 2 → stepAt s w (2 * q) ≡ stepAs q (fromAt s q) (toAt s q) (by w (overAt s q)) 0
+  at-there k = first-of ∙ sym (step-there (rowAt s q) q (by w (overAt s q)) false refl refl (λ e. omega arith) (λ e. omega arith) refl)
+
+  pub at-back : kindAt s q ≡ 2 → stepAt s w (2 * q + 1) ≡ stepAs q (toAt s q) (fromAt s q) 0 (by w (overAt s q))
+  at-back k = second-of ∙ sym (step-back (rowAt s q) q (by w (overAt s q)) true refl refl (λ e. omega arith) (λ e. omega arith) refl)
+
   pub numbered : {X Y u d : ℕ} → Laid s w q X Y u d → Numbered s w q X Y u d
-  numbered (ordinary k a b f g) =
-      record { k = 2 * q; row = even; is = first-of ∙ rw (a, b, f, g) (sym (step-ordinary (rowAt s q) q (by w (overAt s q)) false refl refl k)); some = rw k refl }
-  numbered (wait k a b f g) =
-      record { k = 2 * q; row = even; is = first-of ∙ rw (a, b, f, g) (sym (step-wait (rowAt s q) q (by w (overAt s q)) false refl refl k refl)); some = rw k refl }
-  numbered (there k a b f g) =
-      record { k = 2 * q; row = even; is = first-of ∙ rw (a, b, f, g) (sym (step-there (rowAt s q) q (by w (overAt s q)) false refl refl (λ e. omega arith) (λ e. omega arith) refl)); some = rw k refl }
-  numbered (back k a b f g) =
-      record { k = 2 * q + 1; row = odd; is = second-of ∙ rw (a, b, f, g) (sym (step-back (rowAt s q) q (by w (overAt s q)) true refl refl (λ e. omega arith) (λ e. omega arith) refl)); some = rw k refl }
+  numbered (ordinary k a b f g) = record { k = 2 * q; row = even; is = rw (a, b, f, g) (at-ordinary k); some = rw k refl }
+  numbered (wait k a b f g) = record { k = 2 * q; row = even; is = rw (a, b, f, g) (at-wait k); some = rw k refl }
+  numbered (there k a b f g) = record { k = 2 * q; row = even; is = rw (a, b, f, g) (at-there k); some = rw k refl }
+  numbered (back k a b f g) = record { k = 2 * q + 1; row = odd; is = rw (a, b, f, g) (at-back k); some = rw k refl }
 
 -- an edge is between points, and of no large length
 pub laid-fits : {s w : List ℕ} {m n q X Y u d : ℕ} → SheetReady s w m n → q < m → Laid s w q X Y u d → (X < n) × (Y < n) × (u ≤ farthest) × (d ≤ farthest)

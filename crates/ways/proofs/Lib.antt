@@ -2,3 +2,4 @@
 mod Laws
 mod Reaching
 mod Following
+mod Rounding

@@ -167,6 +167,9 @@ module _ {s w : List ℕ} {m n : ℕ} {t : List ℕ} {y : ℕ} {o : List ℕ} {n
     pub turn-there : (k / 2 < m) × (stepAt s w k .from < side)
     turn-there = (below, omega (arith, inside, r .asks .ready .few))
 
+    pub turn-asks : (k / 2 < mostRecords) × (overAt s (k / 2) < side)
+    turn-asks = (omega (arith, below, r .asks .ready .rows), r .asks .ready .over (k / 2) below)
+
     -- there is room for one more
     pub turn-room : count + 1 ≤ side
     turn-room = omega (arith, r .room, zeros-set o (stepAt s w k .from) 0 (omega (arith, r .ordered .linked .long, turn-there)) (takes .free))

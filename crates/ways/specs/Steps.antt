@@ -4,7 +4,7 @@ use mathlib.Core.Bool.{Bool, true, false, _&&_}
 use mathlib.Core.List.{List, [], _∷_, _++_}
 use Prim.Native.Nat.{ℕ, min, _+_, _-_, _/_, _%_, _<_, _≤_}
 use lib.Dec.{eqb, ltb}
-use lib.ListN.{length, replicate}
+use lib.ListN.{length, replicate, set}
 use Rattle.plan.specs.Choice.{if_then_else_}
 use Rattle.tables.specs.Tables.{side}
 use Rattle.rows.specs.declared.sheet.Row.{Row}
@@ -35,6 +35,10 @@ noSteps = replicate side noStep
 
 abbrev pub wayAs : List Step → Way
 wayAs es = record { count = length es; steps = es ++ replicate (side - length es) noStep }
+
+-- the same with a step more
+abbrev pub withStep : Way → Step → Way
+withStep r e = record { count = r .count + 1; steps = set (r .steps) (r .count) e }
 
 -- ---- on rows
 

@@ -1,11 +1,9 @@
 -- `ways::round::closes` meets its contract. Assumes nothing.
+use mathlib.Core.Path.{refl, ap, _∙_}
 use native.Mathlib.Omega.{arith}
 use borrow.Author.Needs.{needs}
 use Rattle.ways.proofs.round.closes.Statement.{statement}
 use Rattle.ways.proofs.round.closes.Tie as tie
-use Rattle.ways.proofs.round.closes.Reads as reads
-use Rattle.ways.proofs.round.closes.Lts as lts
-use Rattle.ways.proofs.steps.wide.Reads as wide-reads
 
 mul-wide : tie.Need-mul-wide
 mul-wide c = search needs
@@ -29,7 +27,7 @@ add-result-2 : tie.Need-add-result-2
 add-result-2 c = search needs
 
 returns : tie.Need-returns
-returns c = search needs
+returns c = rw (c .before .before .wide .ensures .0) refl
 
 pub closes-spec : {M : Type 1} → statement M
 closes-spec =

@@ -1,5 +1,5 @@
 -- The modules of proofs that belong to no one function.
-mod Laws
+pub mod Laws
 mod Reaching
 mod Following
 mod Rounding

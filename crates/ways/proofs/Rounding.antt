@@ -291,7 +291,7 @@ rounding-none {s} {w} a = record {
     nowhere-to (step e v) = absurd (omega (arith, e .below))
 
 module _ {s w : List ℕ} {m n end k : ℕ} (f : Rounding s w m n end k) where
-  pub rounding-all : end ≤ k → RoundOf s w m (record { count = 0; steps = noSteps })
+  pub rounding-all : end ≤ k → RoundOf s w m (wayAs [])
   rounding-all h =
       let e : k / 2 ≡ m = omega (arith, f .whole, f .within) in
       absurd (not-both (SheetEdge s w m) (rw e at (f .consistent)) (f .asks .cycle))

@@ -9,4 +9,5 @@ pub use round::round_of;
 pub use steps::NO_STEP;
 pub use steps::Step;
 pub use steps::Way;
+pub use steps::no_way;
 pub use toward::way;

@@ -12,7 +12,7 @@ ghost use Rattle.ways.specs.Round.{closesBy, ClosingAsks, Closing, Finis
 use crate::steps::Step;
 use crate::steps::Way;
 use crate::steps::is_edge;
-use crate::steps::no_steps;
+use crate::steps::no_way;
 use crate::steps::step_at;
 use crate::steps::wide;
 use crate::toward::way;
@@ -106,9 +106,5 @@ pub fn round_of(
             return finished(&*all, sheet, durations, n, k);
         }
     }
-    let steps = no_steps();
-    Way {
-        count: 0,
-        steps: steps,
-    }
+    no_way()
 }

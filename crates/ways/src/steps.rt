@@ -2,13 +2,14 @@
 // back, of any other row the same edge twice.
 ghost use mathlib.Core.Path.{_≡_};
 ghost use mathlib.Core.Bool.{_&&_};
+ghost use mathlib.Core.List.{[]};
 ghost use Prim.Native.Nat.{_+_, _/_, _<_, _≤_, _^_, min};
 ghost use lib.Dec.{ltb};
 ghost use lib.ListN.{set};
 ghost use Rattle.plan.specs.Limits.{mostRecords};
 ghost use Rattle.tables.specs.Tables.{side};
 ghost use Rattle.rows.specs.Sheet.{overAt, kindAt};
-ghost use Rattle.ways.specs.Steps.{stepOf, stepAt, isEdge, noSteps};
+ghost use Rattle.ways.specs.Steps.{stepOf, stepAt, isEdge, noSteps, wayAs};
 use plan::ORDINARY;
 use plan::WAIT;
 use rows::Row;
@@ -117,6 +118,17 @@ pub(crate) fn is_edge(sheet: &[u64; SHEET], q: usize) -> bool
 {
     let row = row_at(sheet, q);
     (1 < row.kind) & (row.kind < 5)
+}
+
+// A way without steps.
+pub fn no_way() -> Way
+    ensures { λ r. ⌜ r ≡ wayAs [] ⌝ }
+{
+    let steps = no_steps();
+    Way {
+        count: 0,
+        steps: steps,
+    }
 }
 
 // No steps yet.

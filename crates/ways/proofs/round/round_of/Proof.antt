@@ -36,11 +36,11 @@ loop-less c = search needs
 loop-again : tie.Need-loop-again Inv-loop μ-loop
 loop-again c = rounding-more (c .before .before .before .before .loop .inv) (omega (arith, c .before .before .before .loop-test .taken)) (c .before .closing .ensures) (c .if1 .left)
 
-no-steps-requires : tie.Need-no-steps-requires Inv-loop μ-loop
-no-steps-requires c κs = search needs
+no-way-requires : tie.Need-no-way-requires Inv-loop μ-loop
+no-way-requires c κs = search needs
 
 returns-2 : tie.Need-returns-2 Inv-loop μ-loop
-returns-2 c = rw (c .no-steps .ensures) (rounding-all (c .before .before .loop .inv) (omega (arith, c .before .loop-test .left)))
+returns-2 c = rw (c .no-way .ensures) (rounding-all (c .before .before .loop .inv) (omega (arith, c .before .loop-test .left)))
 
 pub round-of-spec : {M : Type 1} → statement M
 round-of-spec =
@@ -56,5 +56,5 @@ round-of-spec =
     add-k
     loop-less
     loop-again
-    no-steps-requires
+    no-way-requires
     returns-2)

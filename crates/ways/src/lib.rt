@@ -6,6 +6,7 @@ mod steps;
 mod toward;
 
 pub use round::round_of;
+pub use steps::MOST_STEPS;
 pub use steps::NO_STEP;
 pub use steps::Step;
 pub use steps::Way;

@@ -35,10 +35,13 @@ pub const NO_STEP: Step = Step {
     down: 0,
 };
 
+// A way needs no more steps than there can be points.
+pub const MOST_STEPS: usize = SIDE;
+
 // The steps of a way, so many of them; the room after them is zero.
 pub struct Way {
     pub count: usize,
-    pub steps: [Step; SIDE],
+    pub steps: [Step; MOST_STEPS],
 }
 
 const ORDINARY_ROW: u64 = ORDINARY as u64;

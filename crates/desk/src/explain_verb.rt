@@ -3,8 +3,8 @@
 use crate::input::plan_in;
 use crate::say::say;
 use explained::Drives;
-use explained::Explanation;
 use explained::LINKS;
+use explained::Why;
 use explained::explain_of;
 use libc::STDOUT_FILENO;
 use plan::ACCEPTED;
@@ -39,8 +39,7 @@ fn say_steps(way: Way) {
 }
 
 // The lines of a no.
-fn say_why(told: Explanation) {
-    let why = told.why;
+fn say_why(why: Why) {
     say_drives(why.drives);
     if why.shortest.there {
         say(STDOUT_FILENO, shortest_line(why.shortest));
@@ -60,8 +59,9 @@ pub(crate) fn run() {
         );
     }
     let told = explain_of(reading.plan);
-    say(STDOUT_FILENO, text::test_line(told.answer));
-    if 0 < told.why.way.count {
-        say_why(told);
+    let answer = told.answer;
+    say(STDOUT_FILENO, text::test_line(answer));
+    if told.why.sum.there {
+        say_why(told.why);
     }
 }

@@ -2,3 +2,4 @@
 mod Driving
 mod Reasoning
 mod Explaining
+pub mod Single

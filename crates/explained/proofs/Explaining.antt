@@ -224,7 +224,7 @@ module _ (p : Plan) (ok : checkOf p .number ≡ 0) (few : many (spans (recordsOf
           let b : FirstBad (edgesOf (recordsOf p) w) X Y = rw durations-are z in
           let j : Joined (SheetEdge s w (p .count)) X Y = record { up = b .bad .joined .up; down = b .bad .joined .down; walk = over back (b .bad .joined .walk) } in
           let in-plan : (X Y u d : ℕ) → edgesOf (recordsOf p) w X Y u d → (X < n) × (Y < n) = λ X Y u d e. inside ready (omega arith) X Y u d (back X Y u d e) in
-          let hx : X < n = elim (decLt X n) [ | yes h ↦ h | no h ↦ absurd (not-fine (edgesOf (recordsOf p) w) (fine-outside (edgesOf (recordsOf p) w) n in-plan h) (b .bad)) ] in
+          let hx : X < n = elim (decLt X n) [ yes h ↦ h | no h ↦ absurd (not-fine (edgesOf (recordsOf p) w) (fine-outside (edgesOf (recordsOf p) w) n in-plan h) (b .bad)) ] in
           record {
             ready = ready;
             consistent = record { round = λ g. b .consistent .round (over there g) };

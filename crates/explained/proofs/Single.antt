@@ -21,7 +21,7 @@ pub one-least : {W : ℕ → ℕ → Type 0} {a b : Length} → Least W a → Le
 one-least (nothing f) (nothing g) = refl
 one-least (nothing f) (least b g) = absurd (f _ _ b)
 one-least (least a f) (nothing g) = absurd (g _ _ a)
-one-least (least {u} {d} a f) (least {u′} {d′} b g) =
+one-least (least {u = u} {d = d} a f) (least {u = u′} {d = d′} b g) =
     let h = f u′ d′ b in
     let k = g u d a in
     let e : u - d ≡ u′ - d′ = omega arith in
@@ -57,18 +57,19 @@ to-of (answer.Cycle i) = 0
 to-of (answer.Pair i X Y) = Y
 
 pub one-explanation : {p : Plan} {x y : Explanation} → Explained p x → Explained p y → Agree x y
+unfolding number-of from-of to-of
 one-explanation (plainly t h) (plainly t′ h′) = record { answer = one-answer t t′; drives = refl; shortest = refl; allowed = refl }
 one-explanation (plainly t h) (by-cycle {i} at es t′ a l b) = absurd (no-clash (answer.Cycle i) (one-answer t t′) h refl)
 one-explanation (plainly t h) (by-pair {i} {X} {Y} es t′ a l b c) = absurd (no-clash (answer.Pair i X Y) (one-answer t t′) h refl)
 one-explanation (by-cycle {i} at es t a l b) (plainly t′ h) = absurd (no-clash (answer.Cycle i) (one-answer t′ t) h refl)
 one-explanation (by-pair {i} {X} {Y} es t a l b c) (plainly t′ h) = absurd (no-clash (answer.Pair i X Y) (one-answer t′ t) h refl)
-one-explanation (by-cycle {i} at es t a l b) (by-cycle {i′} at′ es′ t′ a′ l′ b′) =
+one-explanation (by-cycle {i} at es t a l b) (by-cycle {i = i′} at′ es′ t′ a′ l′ b′) =
     let e = one-answer t t′ in
     let n : i ≡ i′ = ap number-of e in
     record { answer = e; drives = rw n refl; shortest = refl; allowed = refl }
-one-explanation (by-cycle {i} at es t a l b) (by-pair {i′} {X} {Y} es′ t′ a′ l′ b′ c′) = absurd (let e = one-answer t t′ in let z : _≡_ {A = ℕ} 0 1 = cc in omega arith)
-one-explanation (by-pair {i} {X} {Y} es t a l b c) (by-cycle {i′} at′ es′ t′ a′ l′ b′) = absurd (let e = one-answer t t′ in let z : _≡_ {A = ℕ} 0 1 = cc in omega arith)
-one-explanation (by-pair {i} {X} {Y} es {best} t a l b c) (by-pair {i′} {X′} {Y′} es′ {best′} t′ a′ l′ b′ c′) =
+one-explanation (by-cycle {i} at es t a l b) (by-pair {i = i′} {X = X} {Y = Y} es′ t′ a′ l′ b′ c′) = absurd (let e = one-answer t t′ in let z : _≡_ {A = ℕ} 0 1 = cc in omega arith)
+one-explanation (by-pair {i} {X} {Y} es t a l b c) (by-cycle {i = i′} at′ es′ t′ a′ l′ b′) = absurd (let e = one-answer t t′ in let z : _≡_ {A = ℕ} 0 1 = cc in omega arith)
+one-explanation (by-pair {i = i} {X = X} {Y = Y} es {best = best} t a l b c) (by-pair {i = i′} {X = X′} {Y = Y′} es′ {best = best′} t′ a′ l′ b′ c′) =
     let e = one-answer t t′ in
     let n : i ≡ i′ = ap number-of e in
     let f : X ≡ X′ = ap from-of e in

@@ -58,7 +58,12 @@ fn projections(sheet: &[u64; SHEET], past: usize, links: usize) -> u64
 }
 
 // The durations of projection `number`.
-pub(crate) fn durations_of(sheet: &[u64; SHEET], past: usize, links: usize, number: u32) -> [u64; SIDE]
+pub(crate) fn durations_of(
+    sheet: &[u64; SHEET],
+    past: usize,
+    links: usize,
+    number: u32,
+) -> [u64; SIDE]
     requires { ⌜ DurationAsks (now sheet) past links number ⌝ }
     ensures { λ w. ⌜ ChosenAs (now (sheet .entry)) past links number w ⌝ }
 {

@@ -293,10 +293,10 @@ module _ {s w : List ℕ} {m n : ℕ} {t : List ℕ} {y : ℕ} {o : List ℕ} {n
         go on tight hm hx q = elim (ℕ-discrete (getD o X 0) 0) [
           | no i ↦ omega arith
           | yes i ↦
-            let x = wide-in (raw t X y) (finite (raw t X y) hx) in
-            let c = wide-in (raw t M y) (finite (raw t M y) hm) in
-            absurd (takes-not s w t o y (q .k) (r .found .none l (q .k) (omega (arith, q .row, e .below)))
-            (record { some = rw (q .row) (q .some); free = rw (q .is) i; bound = rw (q .is) on; tight = rw (q .is) (omega (arith, x, c)) }))
+              let x = wide-in (raw t X y) (finite (raw t X y) hx) in
+              let c = wide-in (raw t M y) (finite (raw t M y) hm) in
+              absurd (takes-not s w t o y (q .k) (r .found .none l (q .k) (omega (arith, q .row, e .below)))
+              (record { some = rw (q .row) (q .some); free = rw (q .is) i; bound = rw (q .is) on; tight = rw (q .is) (omega (arith, x, c)) }))
         ]
 
     pub reached-all : Reached s w m n t y o next

@@ -207,8 +207,8 @@ module _ {s w : List ℕ} {n k : ℕ} (a : ClosingAsks s w n k) where
           go u d l = elim (decLt (raw t (stepAt s w k .to) (stepAt s w k .from) + stepAt s w k .up) (middle + stepAt s w k .down)) [
             | no i ↦ omega (arith, wide-in (raw t (stepAt s w k .to) (stepAt s w k .from)) (finite (raw t (stepAt s w k .to) (stepAt s w k .from)) (l .0)), l .1)
             | yes i ↦
-              let z : true ≡ false = rw (lt-ltb (raw t (stepAt s w k .to) (stepAt s w k .from)) nowhere (finite (raw t (stepAt s w k .to) (stepAt s w k .from)) (l .0)), lt-ltb (raw t (stepAt s w k .to) (stepAt s w k .from) + stepAt s w k .up) (middle + stepAt s w k .down) i) at h in
-              absurd (let y : _≡_ {A = ℕ} 0 1 = cc in omega arith)
+                let z : true ≡ false = rw (lt-ltb (raw t (stepAt s w k .to) (stepAt s w k .from)) nowhere (finite (raw t (stepAt s w k .to) (stepAt s w k .from)) (l .0)), lt-ltb (raw t (stepAt s w k .to) (stepAt s w k .from) + stepAt s w k .up) (middle + stepAt s w k .down) i) at h in
+                absurd (let y : _≡_ {A = ℕ} 0 1 = cc in omega arith)
           ]
 
       pub closing-so : {b : Bool} → Filled Every s w (k / 2) n t b → {e : Step} → e ≡ stepAt s w k → (r : Bool) → r ≡ closesBy t e → Closing s w n k t r

@@ -17,10 +17,10 @@ use Rattle.vee.specs.TestOf.{Arc, arc, arcsOf}
 use Rattle.lengths.specs.declared.Length.{Length}
 use Rattle.lengths.specs.Lengths.{lengthOf, noLength, Least}
 use Rattle.ways.specs.declared.steps.Step.{Step}
-use Rattle.ways.specs.Steps.{Leads, ups, downs}
+use Rattle.ways.specs.Steps.{Leads, ups, downs, wayAs}
 use Rattle.explained.specs.declared.reasons.Why.{Why}
 use Rattle.explained.specs.declared.Explanation.{Explanation}
-use Rattle.explained.specs.Drives.{drivesOf}
+use Rattle.explained.specs.Drives.{drivesOf, drivesAs}
 use Rattle.explained.specs.Reasons.{whyAs}
 
 -- the durations of a plan's projection number i
@@ -49,7 +49,7 @@ explanationAs r y = record { answer = r; why = y }
 
 -- nothing is to be explained
 abbrev pub nothingMore : Answer → Explanation
-nothingMore r = explanationAs r (whyAs [] noLength noLength [])
+nothingMore r = explanationAs r (record { drives = drivesAs []; shortest = noLength; allowed = noLength; way = wayAs []; sum = noLength })
 
 -- the answer to the plan p: what the test says, and where that is no, the drives of the projection that fails. For a cycle, steps that
 -- lead from a point back to it and come to less than zero; for a pair, the shortest length, the best that a walk of negative edges and

@@ -39,13 +39,12 @@ fn plainly(answer: Answer) -> Explanation
     let drives = no_drives();
     let none = no_length();
     let way = no_way();
-    let sum = lengths::length_of(0, 0);
     let why = Why {
         drives: drives,
         shortest: none,
         allowed: none,
         way: way,
-        sum: sum,
+        sum: none,
     };
     Explanation {
         answer: answer,

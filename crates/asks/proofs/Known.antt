@@ -18,9 +18,9 @@ use Rattle.values.proofs.Tests.{both}
 use Rattle.values.proofs.Words.{base, same-word}
 use Rattle.values.proofs.Tells.{Tells, tells-all}
 use Rattle.values.proofs.Digits.{digits-unsigned, no-minus}
-use Rattle.asks.specs.Asks.{testVerb, worstVerb, dayVerb, importVerb, closeVerb, lighterVerb, packVerb, listVerb, calendarVerb, isCount, alone, counted, dated, numberOf, askedOf}
+use Rattle.asks.specs.Asks.{testVerb, worstVerb, dayVerb, importVerb, closeVerb, lighterVerb, packVerb, listVerb, explainVerb, calendarVerb, isCount, alone, counted, dated, numberOf, askedOf}
 use Rattle.asks.specs.Inside.{isVerb, countIn, typingIn, aloneIn, countedIn, datedIn, numberIn}
-use Rattle.asks.specs.declared.Asked.the-variants.{Test, Worst, Day, Import, Close, Lighter, Pack, Listing, Calendar, Nothing}
+use Rattle.asks.specs.declared.Asked.the-variants.{Test, Worst, Day, Import, Close, Lighter, Pack, Listing, Explain, Calendar, Nothing}
 use Rattle.asks.specs.declared.Number.{Number}
 
 module _ (f : List ℕ) (a : All IsByte f) where
@@ -79,6 +79,7 @@ module _ (f : List ℕ) (a : All IsByte f) where
         verb lighterVerb (omega arith, (omega arith, (omega arith, (omega arith, (omega arith, (omega arith, (omega arith, tt))))))) (omega arith),
         verb packVerb (omega arith, (omega arith, (omega arith, (omega arith, tt)))) (omega arith),
         verb listVerb (omega arith, (omega arith, (omega arith, (omega arith, tt)))) (omega arith),
+        verb explainVerb (omega arith, (omega arith, (omega arith, (omega arith, (omega arith, (omega arith, (omega arith, tt))))))) (omega arith),
       )
 
   pub dated-known : datedIn known ≡ dated f
@@ -144,9 +145,13 @@ pub is-list : (s : Seen) → isVerb 4 0x7061636b s ≡ false → isVerb 4 0x6c69
 unfolding typingIn
 is-list s d e = rw (d, e)
 
-pub no-typing : (s : Seen) → isVerb 4 0x7061636b s ≡ false → isVerb 4 0x6c697374 s ≡ false → Nothing ≡ typingIn s
+pub is-explain : (s : Seen) → isVerb 4 0x7061636b s ≡ false → isVerb 4 0x6c697374 s ≡ false → isVerb 7 0x6578706c61696e s ≡ true → Explain ≡ typingIn s
 unfolding typingIn
-no-typing s d e = rw (d, e)
+is-explain s d e f = rw (d, e, f)
+
+pub no-typing : (s : Seen) → isVerb 4 0x7061636b s ≡ false → isVerb 4 0x6c697374 s ≡ false → isVerb 7 0x6578706c61696e s ≡ false → Nothing ≡ typingIn s
+unfolding typingIn
+no-typing s d e f = rw (d, e, f)
 
 pub is-day : (s n : Seen) → (isVerb 3 0x646179 s && countIn n) ≡ true → Day (n .size % 4294967296) ≡ countedIn s n
 unfolding countedIn

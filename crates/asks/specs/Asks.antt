@@ -7,10 +7,10 @@ use lib.Dec.{eqb, ltb}
 use Rattle.numbers.specs.Choice.{if_then_else_}
 use Rattle.values.specs.Values.{same, isEmpty, allDigits, valueFrom}
 use Rattle.asks.specs.declared.Asked.{Asked}
-use Rattle.asks.specs.declared.Asked.the-variants.{Test, Worst, Day, Import, Close, Lighter, Pack, Listing, Calendar, Nothing}
+use Rattle.asks.specs.declared.Asked.the-variants.{Test, Worst, Day, Import, Close, Lighter, Pack, Listing, Explain, Calendar, Nothing}
 use Rattle.asks.specs.declared.Number.{Number}
 
--- test, worst, day, import, close, lighter, pack, list, calendar
+-- test, worst, day, import, close, lighter, pack, list, explain, calendar
 abbrev pub testVerb : List ℕ
 testVerb = 116 ∷ 101 ∷ 115 ∷ 116 ∷ []
 
@@ -35,6 +35,9 @@ packVerb = 112 ∷ 97 ∷ 99 ∷ 107 ∷ []
 abbrev pub listVerb : List ℕ
 listVerb = 108 ∷ 105 ∷ 115 ∷ 116 ∷ []
 
+abbrev pub explainVerb : List ℕ
+explainVerb = 101 ∷ 120 ∷ 112 ∷ 108 ∷ 97 ∷ 105 ∷ 110 ∷ []
+
 abbrev pub calendarVerb : List ℕ
 calendarVerb = 99 ∷ 97 ∷ 108 ∷ 101 ∷ 110 ∷ 100 ∷ 97 ∷ 114 ∷ []
 
@@ -52,6 +55,7 @@ alone f =
     else if same f lighterVerb then Lighter
     else if same f packVerb then Pack
     else if same f listVerb then Listing
+    else if same f explainVerb then Explain
     else Nothing
 
 -- a verb and a number

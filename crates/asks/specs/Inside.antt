@@ -5,7 +5,7 @@ use lib.Dec.{eqb, ltb}
 use Rattle.numbers.specs.Choice.{if_then_else_}
 use Rattle.values.specs.declared.Seen.{Seen}
 use Rattle.asks.specs.declared.Asked.{Asked}
-use Rattle.asks.specs.declared.Asked.the-variants.{Test, Worst, Day, Import, Close, Lighter, Pack, Listing, Calendar, Nothing}
+use Rattle.asks.specs.declared.Asked.the-variants.{Test, Worst, Day, Import, Close, Lighter, Pack, Listing, Explain, Calendar, Nothing}
 use Rattle.asks.specs.declared.Number.{Number}
 
 -- so many letters, as one number to the base 256
@@ -19,6 +19,7 @@ unfoldable pub typingIn : Seen → Asked
 typingIn s =
     if isVerb 4 0x7061636b s then Pack
     else if isVerb 4 0x6c697374 s then Listing
+    else if isVerb 7 0x6578706c61696e s then Explain
     else Nothing
 
 unfoldable pub aloneIn : Seen → Asked

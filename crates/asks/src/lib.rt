@@ -20,6 +20,7 @@ pub enum Asked {
     Lighter,
     Pack,
     Listing,
+    Explain,
     Calendar,
     Nothing,
 }
@@ -46,6 +47,8 @@ const LIGHTER: u64 = 0x6c696768746572;
 const PACK: u64 = 0x7061636b;
 
 const LIST: u64 = 0x6c697374;
+
+const EXPLAIN: u64 = 0x6578706c61696e;
 
 const CALENDAR: u64 = 0x63616c656e646172;
 
@@ -84,7 +87,7 @@ fn is_count(s: Seen) -> bool
     (s.count != 0) & ((s.digits & !s.minus) & (s.size < 4294967296))
 }
 
-// A verb alone, of those about listings.
+// A verb alone, of those about what people type and ask.
 fn typing(s: Seen) -> Asked
     ensures { λ a. ⌜ a ≡ typingIn s ⌝ }
 {
@@ -93,6 +96,9 @@ fn typing(s: Seen) -> Asked
     }
     if is_verb(s, 4, LIST) {
         return Asked::Listing;
+    }
+    if is_verb(s, 7, EXPLAIN) {
+        return Asked::Explain;
     }
     Asked::Nothing
 }

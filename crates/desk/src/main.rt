@@ -3,6 +3,7 @@
 mod calendar_verb;
 mod close_verb;
 mod day_verb;
+mod explain_verb;
 mod import_verb;
 mod input;
 mod lighter_verb;
@@ -17,8 +18,8 @@ mod worst_verb;
 use asks::Asked;
 
 // The verbs and their words.
-const USAGE: [u8; 117] =
-    *b"usage: desk test | worst | day NUMBER | import | pack | list | close | lighter | calendar YEAR MONTH DAY HOUR MINUTE
+const USAGE: [u8; 127] =
+    *b"usage: desk test | explain | worst | day NUMBER | import | pack | list | close | lighter | calendar YEAR MONTH DAY HOUR MINUTE
 ";
 
 // The first two words behind the program's name: a verb, and what it is asked.
@@ -45,6 +46,7 @@ fn main() {
         Asked::Lighter => lighter_verb::run(),
         Asked::Pack => pack_verb::run(),
         Asked::Listing => list_verb::run(),
+        Asked::Explain => explain_verb::run(),
         Asked::Calendar => calendar_verb::run(),
         Asked::Nothing => usage(),
     }

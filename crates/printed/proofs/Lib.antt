@@ -1,0 +1,2 @@
+-- The theorems about what is printed.
+mod ACase

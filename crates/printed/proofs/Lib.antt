@@ -1,2 +1,3 @@
 -- The theorems about what is printed.
 mod ACase
+pub mod YesEnds

@@ -24,7 +24,7 @@ use Rattle.saying.proofs.Listing.{one-text}
 
 module _ (l : Links) (ponds rows out kept lines₀ : List ℕ) (at : ℕ) where
   module _ (b : Board) (r : Reply) (line : Line) {lines₁ : List ℕ} {first : ℕ} (hb : BoardIn kept b) (hr : RepliesWith l rows out kept r)
-    (e : line ≡ boardLine b r) (m : Made lines₀ at (textIn line) lines₁ first) (few : first ≤ at + room) where
+      (e : line ≡ boardLine b r) (m : Made lines₀ at (textIn line) lines₁ first) (few : first ≤ at + room) where
     -- no list
     pub board-short : hasList (r .outcome) ≡ false → BoardPut l ponds rows out kept lines₀ at lines₁ first
     unfolding textsOf

@@ -1,0 +1,5 @@
+-- The theorems about a run.
+mod Joining
+mod Fronts
+mod Days
+pub mod Whole

@@ -134,9 +134,10 @@ marked-part c p mark rest e u l m =
     let h : untilMark (eventsIn (suc q) (mark ++ rest)) ≡ 0 = rw (t, m) in
     let i : untilMark (wholeIn all) ≡ c = ap untilMark b ∙ until-behind (wholeIn p) (eventsIn (suc q) (mark ++ rest)) (u ∙ sym w) ∙ omega arith in
     let j : length (wholeIn all) ≡ c + suc q = length-events (length all / recordBytes) all ∙ n in
-    let z : recordBytes * suc c ≡ length (p ++ mark) = omega (arith, length-append p mark) in
-    (rw (i, j, lt-ltb c (c + suc q) (omega arith)) (take-at p (mark ++ rest) (recordBytes * c) e)
-    , rw (i, ← append-assoc p mark rest) (drop-at (p ++ mark) rest (recordBytes * suc c) (sym z)))
+    let z : recordBytes * suc c ≡ length (p ++ mark) = omega (arith, length-append p mark) in (
+      rw (i, j, lt-ltb c (c + suc q) (omega arith)) (take-at p (mark ++ rest) (recordBytes * c) e),
+      rw (i, ← append-assoc p mark rest) (drop-at (p ++ mark) rest (recordBytes * suc c) (sym z)),
+    )
 
 -- no mark at all
 unmarked-part : (c : ℕ) (p rest : List ℕ) → length p ≡ recordBytes * c → untilMark (wholeIn p) ≡ c → length rest < recordBytes

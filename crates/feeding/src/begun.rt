@@ -113,7 +113,7 @@ pub fn put_last(
     ensures { λ r. ⌜ LastPut part (now (front .entry)) (now (kept .entry)) left (now (lines .entry)) at (now (lines .exit)) r ⌝ }
 {
     let end = put_tail(left, lines, at);
-    let reading = read_front(part, front);
-    let plan = reading.plan;
+    let again = read_front(part, front);
+    let plan = again.plan;
     put_line(lines, end, text::end_line(plan, engine::board_of(kept)))
 }

@@ -2,10 +2,13 @@
 ghost use mathlib.Core.Path.{_≡_};
 ghost use Prim.Native.Nat.{_-_, _≤_};
 ghost use lib.ListN.{length};
+use engine::KEPT;
 use feeding::keep_plan;
 use feeding::keep_rest;
+use feeding::put_last;
 use libc::STDIN_FILENO;
 use libc::STDOUT_FILENO;
+use saying::MOST;
 use stream::within;
 
 // Writes out the first n bytes of the room; whether that went well.
@@ -116,4 +119,13 @@ pub(crate) fn drain(chunk: &mut [u8], more: bool) {
         going = read_on(chunk, 0) != 0;
         turns -= 1;
     }
+}
+
+// What is printed at the end of the input, of which so many bytes of an unfinished record are left.
+pub(crate) fn end(part: u64, front: &[u8], kept: &[u32; KEPT], left: usize, lines: &mut [u8]) {
+    if lines.len() < MOST {
+        return;
+    }
+    let n = put_last(part, front, kept, left, lines, 0);
+    sent(lines, n);
 }

@@ -4,19 +4,14 @@
 // contract can say: one loop for the plan part and one for the events, each of a read, a call and a write. After each read all whole records
 // that have come are answered, and their lines go out before the next read, so that a foreman who types an event has his answer; memory
 // does not grow with the input.
-ghost use mathlib.Core.Path.{_≡_};
-ghost use Prim.Native.Nat.{_≤_};
-ghost use lib.ListN.{length};
-ghost use Rattle.saying.specs.Makes.{mostMade};
-
 mod input;
 mod play;
 
 use engine::KEPT;
 use engine::LIST;
 use feeding::begin_plan;
-use feeding::put_last;
 use input::drain;
+use input::end;
 use input::plan_part;
 use input::sent;
 use play::Went;
@@ -34,9 +29,13 @@ const LINES: usize = 16384;
 
 // Reads standard input to its end and prints: in full, the plan test and every reply; else one line for each event. It ends
 // early where the output is closed.
-fn print_in(full: bool, chunk: &mut [u8], front: &mut [u8], lines: &mut [u8])
-    requires { ⌜ mostMade ≤ length (now lines) ⌝ }
-{
+pub fn print(full: bool) {
+    let mut chunk_room = [0u8; CHUNK];
+    let chunk: &mut [u8] = &mut chunk_room;
+    let mut front_room = [0u8; FRONT];
+    let front: &mut [u8] = &mut front_room;
+    let mut line_room = [0u8; LINES];
+    let lines: &mut [u8] = &mut line_room;
     let mut rows = [0u64; SHEET];
     let mut into = [0u16; LIST];
     let mut out = [0u16; LIST];
@@ -67,7 +66,7 @@ fn print_in(full: bool, chunk: &mut [u8], front: &mut [u8], lines: &mut [u8])
         at: came.at,
         more: more,
     };
-    let went = play(
+    let left = play(
         full,
         links,
         ponds,
@@ -80,13 +79,5 @@ fn print_in(full: bool, chunk: &mut [u8], front: &mut [u8], lines: &mut [u8])
         chunk,
         lines,
     );
-    let end = put_last(came.length, front, &kept, went.at - went.past, lines, 0);
-    sent(lines, end);
-}
-
-pub fn print(full: bool) {
-    let mut chunk = [0u8; CHUNK];
-    let mut front = [0u8; FRONT];
-    let mut lines = [0u8; LINES];
-    print_in(full, &mut chunk, &mut front, &mut lines);
+    end(came.length, front, &kept, left, lines);
 }

@@ -73,7 +73,7 @@ fn turn(
 }
 
 // All events, to the end of the input.
-pub(crate) fn play(
+fn play_on(
     full: bool,
     links: Links,
     ponds: [u32; ROOM],
@@ -111,4 +111,36 @@ pub(crate) fn play(
         turns -= 1;
     }
     now
+}
+
+// The same; answers how many bytes of an unfinished record are left.
+pub(crate) fn play(
+    full: bool,
+    links: Links,
+    ponds: [u32; ROOM],
+    rows: &[u64; SHEET],
+    into: &[u16; LIST],
+    out: &[u16; LIST],
+    ends: &[u16; LIST],
+    kept: &mut [u32; KEPT],
+    first: Went,
+    chunk: &mut [u8],
+    lines: &mut [u8],
+) -> usize
+    requires { ⌜ (first .past ≤ first .at) × (first .at ≤ length (now chunk)) ⌝ }
+{
+    let went = play_on(
+        full,
+        links,
+        ponds,
+        rows,
+        into,
+        out,
+        ends,
+        &mut *kept,
+        first,
+        chunk,
+        lines,
+    );
+    went.at - went.past
 }

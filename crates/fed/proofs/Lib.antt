@@ -3,3 +3,4 @@ mod Joining
 mod Fronts
 mod Days
 pub mod Whole
+mod Lists

@@ -140,8 +140,8 @@ module _ (p : Plan) (l : Links) (ponds rows into out ends : List ℕ) (b : Board
   same-line : hasList (r .outcome) ≡ true → (i : ℕ) → i < points rs → lineAt rows ponds r i ≡ placeLine p r i
   same-line h i n =
       let s = getD (r .places) i nowhere .state in
-      let named : Named rs s = rw reply-is (named-place rs b (outcomeOf rs b) (ap (λ (x : Reply). hasList (x .outcome)) (sym reply-is) ∙ h) i (omega arith)) in
-      let pond : getD ponds i 0 ≡ pondAt p i = q .each i (omega arith) in
+      let named : Named rs s = rw reply-is (named-place rs b (outcomeOf rs b) (ap (λ (x : Reply). hasList (x .outcome)) (sym reply-is) ∙ h) i (omega (arith, few))) in
+      let pond : getD ponds i 0 ≡ pondAt p i = q .each i (omega (arith, few)) in
       let more = pieces-same rs s (reasonAt rows (namedBy s)) (getD rs (namedBy s) blank) named
       (λ k. shows-same rs rows (a .listed .laid) records-few (namedBy s) k (all-at rs (all-take Held (p .count) (p .records) (held .each)) (namedBy s) k)) in
       λ j. said (Name pointWord) (Number i ∷ Number (pond j) ∷ more j)
@@ -150,7 +150,7 @@ module _ (p : Plan) (l : Links) (ponds rows into out ends : List ℕ) (b : Board
   lines-same = go (hasList (r .outcome)) refl
     where
       n : min (l .points) mostPoints ≡ points rs
-      n = omega (arith, a .links .points)
+      n = omega (arith, a .links .points, few)
 
       go : (t : Bool) → hasList (r .outcome) ≡ t
           → boardLine b r ∷ (if t then map (lineAt rows ponds r) (from 0 (min (l .points) mostPoints)) else []) ≡ boardLine b r ∷ (if t then map (placeLine p r) (from 0 (points rs)) else [])

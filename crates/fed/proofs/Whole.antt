@@ -33,14 +33,14 @@ use Rattle.fed.specs.Whole.{SheetPrints}
 use Rattle.fed.proofs.Joining.{whole-rest}
 use Rattle.fed.proofs.Fronts.{part-reads}
 use Rattle.fed.proofs.Days as days
-use Rattle.fed.proofs.Days.{written}
+use Rattle.fed.proofs.Days.{written, no-lines, lines-behind, one-event}
 
 -- a refused plan
-refused-lines : (lines : Plan → List ℕ → List Line) (r : Reading) (events : List ℕ) → (r .number ≡ 0 → ⊥) → textsOf (readLines lines r events) ≡ textIn (planLine (r .number) (r .place))
+pub refused-lines : (lines : Plan → List ℕ → List Line) (r : Reading) (events : List ℕ) → (r .number ≡ 0 → ⊥) → textsOf (readLines lines r events) ≡ textIn (planLine (r .number) (r .place))
 refused-lines lines r events h = rw (ne-eqb (r .number) 0 h) (one-text (planLine (r .number) (r .place)))
 
 -- a plan that is read
-read-lines : (lines : Plan → List ℕ → List Line) (r : Reading) (events : List ℕ) → r .number ≡ 0 → readLines lines r events ≡ lines (r .plan) events
+pub read-lines : (lines : Plan → List ℕ → List Line) (r : Reading) (events : List ℕ) → r .number ≡ 0 → readLines lines r events ≡ lines (r .plan) events
 read-lines lines r events h = rw (eq-eqb (r .number) 0 h)
 
 -- the rooms of a plan that is read agree with the fresh board
@@ -93,14 +93,14 @@ sheet-read front₀ front bytes rows₀ into₀ out₀ ends₀ kept₀ lines₀ 
     let two = part-reads front₀ t n bytes front part room h (events ++ rest) q in
     let p = readFront n front .plan in
     let a = begun-agrees false n front rows₀ into₀ out₀ ends₀ kept₀ lines₀ rows into out ends kept lines b g z (planPart (bytes ++ (events ++ rest))) (two .0) in
-    let s = days.pieces-hold p (b .links) (b .ponds) rows into out ends kept a k events kept′ text run f in
+    let s = days.pieces-hold false p (b .links) (b .ponds) rows into out ends (eventLines p) (λ x y. no-lines p x y) (lines-behind p) (one-event p (b .links) (b .ponds) rows into out ends) kept a k events kept′ text run f in
     let none : take (b .end) lines ≡ [] = written lines₀ _ lines (b .end) (g .read z .made) ∙ g .read z .first in
     let v = whole-rest (s .count) events rest (s .whole) few in
     let end = end-text p (b .links) rows into out ends events kept′ (s .count) rest (s .whole) few (s .agrees) n front lines₁ lines₂ e refl last in
     let ok : readFront n front .number ≡ 0 = sym (g .number) ∙ z in
     let behind : events ++ rest ≡ eventPart (bytes ++ (events ++ rest)) = sym (two .1) in
     let all : text ++ take e lines₂ ≡ textsOf (sheetOf p (events ++ rest)) =
-    (λ i. s .lines i ++ end i) ∙ sym (texts-more (eventLines p 0 fresh (wholeIn events)) (endLines p (events ++ rest))) ∙ ap (λ (x : List (List ℕ)). textsOf (eventLines p 0 fresh x ++ endLines p (events ++ rest))) (sym v) in
+    (λ i. s .told i ++ end i) ∙ sym (texts-more (eventLines p 0 fresh (wholeIn events)) (endLines p (events ++ rest))) ∙ ap (λ (x : List (List ℕ)). textsOf (eventLines p 0 fresh x ++ endLines p (events ++ rest))) (sym v) in
     ap (λ (x : List ℕ). x ++ (text ++ take e lines₂)) none ∙ all ∙ ap textsOf (sym (read-lines sheetOf (readFront n front) (events ++ rest) ok))
     ∙ (λ i. textsOf (readLines sheetOf (two .0 i) (behind i)))
 

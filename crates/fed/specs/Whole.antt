@@ -5,8 +5,13 @@ use mathlib.Core.Bool.{true, false}
 use mathlib.Core.List.{List}
 use Prim.Native.Nat.{ℕ, _^_, _<_}
 use lib.ListN.{length}
+use Rattle.plan.specs.Held.{All, IsByte}
 use Rattle.printed.specs.Texts.{sheetText, offersText}
 use Rattle.fed.specs.Runs.{Prints}
 
 abbrev pub SheetPrints : Type 0
 SheetPrints = (bytes text : List ℕ) → length bytes < 2 ^ 64 → Prints false bytes text → text ≡ sheetText bytes
+
+-- the same of the program that prints every reply
+abbrev pub OffersPrints : Type 0
+OffersPrints = (bytes text : List ℕ) → All IsByte bytes → length bytes < 2 ^ 64 → Prints true bytes text → text ≡ offersText bytes

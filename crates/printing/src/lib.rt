@@ -19,13 +19,13 @@ use play::play;
 use rows::SHEET;
 
 // The input that is read at once.
-const CHUNK: usize = 16384;
+const CHUNK: usize = 4096;
 
 // The room for the plan file: the largest one, one record more, and an unfinished one.
 const FRONT: usize = plan::RECORD_BYTES * (plan::MOST_RECORDS + 2);
 
 // The lines that go out at once.
-const LINES: usize = 16384;
+const LINES: usize = 8192;
 
 // Reads standard input to its end and prints: in full, the plan test and every reply; else one line for each event. It ends
 // early where the output is closed.

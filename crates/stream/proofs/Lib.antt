@@ -1,5 +1,5 @@
 -- The modules of proofs that belong to no one function.
-mod Fronts
+pub mod Fronts
 mod Marks
 mod Stages
 pub mod AtOnce

@@ -42,7 +42,7 @@ fn copy(into: &mut [u8], at: usize, from: &[u8])
 }
 
 // The bytes behind the first `at` of the buffer, if they fit; answers where they end.
-fn append(into: &mut [u8], at: usize, from: &[u8]) -> usize
+pub fn append(into: &mut [u8], at: usize, from: &[u8]) -> usize
     ensures place { λ r. ⌜ r ≡ endOf (now (into .entry)) at (now (from .entry)) ⌝ }
     ensures bytes { λ _. ⌜ now (into .exit) ≡ appended (now (into .entry)) at (now (from .entry)) ⌝ }
 {

@@ -6,6 +6,7 @@ mod front;
 mod many;
 mod sheet;
 
+pub use bytes::append;
 pub use bytes::behind;
 pub use bytes::fits;
 pub use bytes::within;
@@ -16,3 +17,4 @@ pub use sheet::PLAYING;
 pub use sheet::REFUSED;
 pub use sheet::Sheet;
 pub use sheet::TAIL;
+pub use sheet::is_mark;

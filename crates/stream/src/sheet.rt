@@ -42,7 +42,7 @@ pub struct Sheet {
 }
 
 // A record of sixteen bytes 255.
-fn is_mark(bytes: &[u8]) -> bool
+pub fn is_mark(bytes: &[u8]) -> bool
     ensures { λ t. ⌜ t ≡ isMark (now (bytes .entry)) ⌝ }
 {
     let mut i: usize = 0;

@@ -1,4 +1,4 @@
--- `printing::input::carry` meets its contract. Assumes nothing.
+-- `printing::carry` meets its contract. Assumes nothing.
 use mathlib.Core.Path.{_≡_}
 use Prim.Native.Nat.{_≤_, _<_, _-_, _+_, _^_}
 use lib.ListN.{length}
@@ -7,13 +7,15 @@ use Rattle.printing.proofs.input.carry.Statement.{statement}
 use Rattle.printing.proofs.input.carry.Tie as tie
 
 abbrev Inv-loop : tie.InvT-loop
-Inv-loop chunk₀ n left from i₀ chunk i = (n ≤ length chunk₀) × (left ≤ n) × (from + left ≡ n) × (length chunk ≡ length chunk₀) × (length chunk₀ < 2 ^ 63) × (i ≤ left)
+Inv-loop chunk₀ past at left i₀ chunk i =
+    (past ≤ at) × (at ≤ length chunk₀) × (past + left ≡ at) × (length chunk ≡ length chunk₀) × (length chunk₀ < 2 ^ 63) × (i ≤ left)
 
 abbrev μ-loop : tie.MeasureT-loop
-μ-loop chunk₀ n left from i₀ chunk i = left - i
+μ-loop chunk₀ past at left i₀ chunk i =
+    left - i
 
-sub-from : tie.Need-sub-from Inv-loop μ-loop
-sub-from c = search needs
+sub-left : tie.Need-sub-left Inv-loop μ-loop
+sub-left c = search needs
 
 loop-holds : tie.Need-loop-holds Inv-loop μ-loop
 loop-holds c = search needs
@@ -48,7 +50,7 @@ carry-spec =
     (tie.spec
     Inv-loop
     μ-loop
-    sub-from
+    sub-left
     loop-holds
     add-chunk
     slice-read-chunk

@@ -7,18 +7,15 @@ use Rattle.printing.proofs.play.play_on.Statement.{statement}
 use Rattle.printing.proofs.play.play_on.Tie as tie
 
 abbrev Inv-loop : tie.InvT-loop
-Inv-loop told rows into from ends kept₀ chunk₀ lines₀ now₀ turns₀ kept chunk lines now turns =
-    (now .at ≤ length chunk) × (length chunk ≡ length chunk₀) × (length lines ≡ length lines₀)
+Inv-loop full links ponds rows into out ends kept₀ chunk₀ lines₀ now₀ turns₀ kept chunk lines now turns =
+    (now .past ≤ now .at) × (now .at ≤ length chunk) × (length chunk ≡ length chunk₀) × (length lines ≡ length lines₀)
 
 abbrev μ-loop : tie.MeasureT-loop
-μ-loop told rows into from ends kept₀ chunk₀ lines₀ now₀ turns₀ kept chunk lines now turns =
+μ-loop full links ponds rows into out ends kept₀ chunk₀ lines₀ now₀ turns₀ kept chunk lines now turns =
     turns
 
 loop-holds : tie.Need-loop-holds Inv-loop μ-loop
 loop-holds c = search needs
-
-turn-requires : tie.Need-turn-requires Inv-loop μ-loop
-turn-requires c κs = search needs
 
 same-length : tie.Need-same-length Inv-loop μ-loop
 same-length c = search needs
@@ -28,6 +25,9 @@ same-length-2 c = search needs
 
 returns : tie.Need-returns Inv-loop μ-loop
 returns c = search needs
+
+turn-requires : tie.Need-turn-requires Inv-loop μ-loop
+turn-requires c κs = search needs
 
 sub-turns : tie.Need-sub-turns Inv-loop μ-loop
 sub-turns c = search needs
@@ -54,10 +54,10 @@ play-on-spec =
     Inv-loop
     μ-loop
     loop-holds
-    turn-requires
     same-length
     same-length-2
     returns
+    turn-requires
     sub-turns
     loop-less
     loop-again

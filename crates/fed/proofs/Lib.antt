@@ -1,0 +1,8 @@
+-- The theorems about a run: `sheet-prints` of `Whole`, `offers-prints` of `WholeFull`. The others lead up to these.
+mod Joining
+mod Fronts
+mod Days
+pub mod Whole
+mod Lists
+mod Answers
+pub mod WholeFull

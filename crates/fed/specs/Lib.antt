@@ -1,0 +1,3 @@
+-- What a reader has to believe of a run of a printing program. No proofs are here.
+pub mod Runs
+pub mod Whole

@@ -1,0 +1,2 @@
+-- What a reader has to believe of the machine that is fed. No proofs are here.
+pub mod Parts

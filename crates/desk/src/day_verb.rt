@@ -1,7 +1,5 @@
 // `desk day N`: a plan file, and that file, the mark and the events of projection N's run: what `sheet` and `offers` read. A refusal goes
 // to standard error, and nothing is written.
-use crate::input::plan_room;
-use crate::input::read_all;
 use crate::say::say;
 use libc::STDERR_FILENO;
 use libc::STDOUT_FILENO;
@@ -9,7 +7,6 @@ use plan::ACCEPTED;
 use plan::MOST_POINTS;
 use plan::Plan;
 use plan::RECORD_BYTES;
-use stream::read_front;
 use stream::within;
 
 // A run has at most as many events as there are points.
@@ -19,7 +16,7 @@ const ROOM: usize = RECORD_BYTES * MOST_POINTS as usize;
 const MARK: [u8; RECORD_BYTES] = [255; RECORD_BYTES];
 
 // The plan file, which is so many bytes at the front, then the mark and the day.
-fn write_day(plan: Plan, front: &[u8], length: u64, projection: u32) {
+pub(crate) fn write_day(plan: Plan, front: &[u8], length: u64, projection: u32) {
     let mut room = [0u8; ROOM];
     let day = worst::day_of(plan, projection, &mut room);
     if day.number != ACCEPTED {
@@ -30,18 +27,4 @@ fn write_day(plan: Plan, front: &[u8], length: u64, projection: u32) {
     io::write_all(STDOUT_FILENO, &MARK);
     let m = within(RECORD_BYTES * (day.events as usize), &room);
     io::write_all(STDOUT_FILENO, &room[..m]);
-}
-
-pub(crate) fn run(projection: u32) {
-    let mut room = plan_room();
-    let front: &mut [u8] = &mut room;
-    let length = read_all(front);
-    let reading = read_front(length, front);
-    if reading.number != ACCEPTED {
-        return say(
-            STDERR_FILENO,
-            text::plan_line(reading.number, reading.place),
-        );
-    }
-    write_day(reading.plan, front, length, projection)
 }

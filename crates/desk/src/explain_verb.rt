@@ -1,14 +1,12 @@
 // `desk explain`: a plan file, and the plan test's answer to it; where that is no, the drives of the projection that fails, for a pair the
 // shortest length and the best that the windows can follow, and the steps of a shortest way or of a cycle with their sum.
-use crate::input::plan_in;
-use crate::input::plan_room;
 use crate::say::say;
 use explained::Drives;
 use explained::LINKS;
 use explained::Why;
 use explained::explain_of;
 use libc::STDOUT_FILENO;
-use plan::ACCEPTED;
+use plan::Plan;
 use reasons::allowed_line;
 use reasons::drive_line;
 use reasons::shortest_line;
@@ -50,16 +48,8 @@ fn say_why(why: Why) {
     say(STDOUT_FILENO, sum_line(why.sum));
 }
 
-pub(crate) fn run() {
-    let mut room = plan_room();
-    let reading = plan_in(&mut room);
-    if reading.number != ACCEPTED {
-        return say(
-            STDOUT_FILENO,
-            text::plan_line(reading.number, reading.place),
-        );
-    }
-    let told = explain_of(reading.plan);
+pub(crate) fn tell(plan: Plan) {
+    let told = explain_of(plan);
     let answer = told.answer;
     say(STDOUT_FILENO, text::test_line(answer));
     if told.why.sum.there {

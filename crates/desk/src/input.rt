@@ -4,9 +4,7 @@ ghost use lib.ListN.{length};
 use libc::STDIN_FILENO;
 use plan::MOST_RECORDS;
 use plan::RECORD_BYTES;
-use plan::Reading;
 use std::num::wrapping_add_u64;
-use stream::read_front;
 
 // Passes over all that is left of the input, and answers how many bytes that was.
 fn pass_over(rest: &mut [u8]) -> u64 {
@@ -31,12 +29,6 @@ pub(crate) fn read_all(front: &mut [u8]) -> u64 {
     }
     let mut room = piece_room();
     wrapping_add_u64(n as u64, pass_over(&mut room))
-}
-
-// The plan that the whole input is, read by its front.
-pub(crate) fn plan_in(front: &mut [u8]) -> Reading {
-    let length = read_all(front);
-    read_front(length, front)
 }
 
 // So many bytes are read at once where the input is not held.

@@ -1,7 +1,5 @@
 // `desk lighter`: a plan file, and that of the plan without the records that it does not need; on standard error `dropped N` for each
 // that went, by its number in the plan as it came in. A refusal goes to standard error, and nothing is written.
-use crate::input::plan_in;
-use crate::input::plan_room;
 use crate::made::write_plan;
 use crate::say::say;
 use libc::STDERR_FILENO;
@@ -9,6 +7,7 @@ use lighter::Lighter;
 use lighter::lighter_of;
 use plan::ACCEPTED;
 use plan::MOST_RECORDS;
+use plan::Plan;
 
 // A line for each record that went.
 fn say_dropped(made: Lighter) {
@@ -21,16 +20,8 @@ fn say_dropped(made: Lighter) {
     }
 }
 
-pub(crate) fn run() {
-    let mut room = plan_room();
-    let reading = plan_in(&mut room);
-    if reading.number != ACCEPTED {
-        return say(
-            STDERR_FILENO,
-            text::plan_line(reading.number, reading.place),
-        );
-    }
-    let made = lighter_of(reading.plan);
+pub(crate) fn write_lighter(plan: Plan) {
+    let made = lighter_of(plan);
     if made.number != ACCEPTED {
         return say(STDERR_FILENO, answers::lighter_refused(made.number));
     }

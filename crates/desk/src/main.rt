@@ -1,5 +1,7 @@
-// One program for the desk: `desk VERB [WORDS]`, standard input to standard output. Each verb is a file here that reads, calls
-// one proved function and prints proved lines; what reads and writes no contract can say. Memory does not grow with the input.
+// One program for the desk: `desk VERB [WORDS]`, standard input to standard output. Each verb is a file here that calls
+// one proved function and prints proved lines; what reads and writes no contract can say. Memory does not grow with the input. Verbs that take a
+// plan file are called in `plan_verbs`, the others in `text_verbs`, each of which is called in several places, so that the compiler
+// does not make one frame of all of them.
 mod calendar_verb;
 mod close_verb;
 mod day_verb;
@@ -10,12 +12,16 @@ mod lighter_verb;
 mod list_verb;
 mod made;
 mod pack_verb;
+mod plan_verbs;
 mod say;
 mod sheet_in;
 mod test_verb;
+mod text_verbs;
 mod worst_verb;
 
 use asks::Asked;
+use libc::STDERR_FILENO;
+use libc::STDOUT_FILENO;
 
 // The verbs and their words.
 const USAGE: [u8; 127] =
@@ -33,21 +39,22 @@ fn asked() -> Asked {
 
 // What is said of a verb or words that are none.
 pub(crate) fn usage() {
-    io::write_all(libc::STDERR_FILENO, &USAGE);
+    io::write_all(STDERR_FILENO, &USAGE);
 }
 
 fn main() {
-    match asked() {
-        Asked::Test => test_verb::run(),
-        Asked::Worst => worst_verb::run(),
-        Asked::Day(number) => day_verb::run(number),
-        Asked::Import => import_verb::run(),
-        Asked::Close => close_verb::run(),
-        Asked::Lighter => lighter_verb::run(),
-        Asked::Pack => pack_verb::run(),
-        Asked::Listing => list_verb::run(),
-        Asked::Explain => explain_verb::run(),
-        Asked::Calendar => calendar_verb::run(),
+    let ask = asked();
+    match ask {
+        Asked::Test => plan_verbs::run(ask, STDOUT_FILENO),
+        Asked::Explain => plan_verbs::run(ask, STDOUT_FILENO),
+        Asked::Worst => plan_verbs::run(ask, STDOUT_FILENO),
+        Asked::Day(_) => plan_verbs::run(ask, STDERR_FILENO),
+        Asked::Listing => plan_verbs::run(ask, STDERR_FILENO),
+        Asked::Close => plan_verbs::run(ask, STDERR_FILENO),
+        Asked::Lighter => plan_verbs::run(ask, STDERR_FILENO),
+        Asked::Import => text_verbs::run(text_verbs::IMPORT),
+        Asked::Pack => text_verbs::run(text_verbs::PACK),
+        Asked::Calendar => text_verbs::run(text_verbs::CALENDAR),
         Asked::Nothing => usage(),
     }
 }

@@ -1,18 +1,8 @@
-// `desk test`: a plan file, and the plan test's answer to it.
-use crate::input::plan_in;
-use crate::input::plan_room;
+// `desk test`: the plan test's answer to a plan.
 use crate::say::say;
 use libc::STDOUT_FILENO;
-use plan::ACCEPTED;
+use plan::Plan;
 
-pub(crate) fn run() {
-    let mut room = plan_room();
-    let reading = plan_in(&mut room);
-    if reading.number != ACCEPTED {
-        return say(
-            STDOUT_FILENO,
-            text::plan_line(reading.number, reading.place),
-        );
-    }
-    say(STDOUT_FILENO, text::test_line(vee::test(reading.plan)))
+pub(crate) fn tell(plan: Plan) {
+    say(STDOUT_FILENO, text::test_line(vee::test(plan)))
 }

@@ -1,21 +1,8 @@
-// `desk worst`: a plan file, and its worst finishing minute with the first projection that reaches it.
-use crate::input::plan_in;
-use crate::input::plan_room;
+// `desk worst`: the worst finishing minute of a plan and the first projection that reaches it, or its refusal.
 use crate::say::say;
 use libc::STDOUT_FILENO;
-use plan::ACCEPTED;
+use plan::Plan;
 
-pub(crate) fn run() {
-    let mut room = plan_room();
-    let reading = plan_in(&mut room);
-    if reading.number != ACCEPTED {
-        return say(
-            STDOUT_FILENO,
-            text::plan_line(reading.number, reading.place),
-        );
-    }
-    say(
-        STDOUT_FILENO,
-        answers::worst_line(worst::worst_of(reading.plan)),
-    )
+pub(crate) fn tell(plan: Plan) {
+    say(STDOUT_FILENO, answers::worst_line(worst::worst_of(plan)))
 }

@@ -564,7 +564,7 @@ fn edges(draw: &mut Draw) -> Vec<Ask> {
 }
 
 /// Pond codes of another shape.
-const CODES_OF_ANOTHER_SHAPE: [(&str, &[&[u8]]); 8] = [
+const CODES_OF_ANOTHER_SHAPE: [(&str, &[&[u8]]); 9] = [
     (
         "a date",
         &[
@@ -593,10 +593,8 @@ const CODES_OF_ANOTHER_SHAPE: [(&str, &[&[u8]]); 8] = [
         &[b"45976", b"\"45,976\"", b"0", b"-0", b"1", b"000000"],
     ),
     ("small letters", &[b"aa0001", b"Aa0001", b"aA0001"]),
-    (
-        "too short or too long",
-        &[b"AA001", b"AA00001", b"AAA001", b"AA000", b"A", b"AA00011"],
-    ),
+    ("too short", &[b"AA001", b"AAA001", b"AA000", b"A"]),
+    ("too long", &[b"AA00001", b"AA00011"]),
     (
         "letters for digits",
         &[

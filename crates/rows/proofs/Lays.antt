@@ -1,6 +1,6 @@
 -- The rows of a sheet, each laid into a table. Assumes nothing.
 use mathlib.Core.Path.{_≡_, refl, subst}
-use mathlib.Core.Logic.{_⊎_, inl, inr, ⊎-elim}
+use mathlib.Core.Logic.{_⊎_, inl, inr}
 use mathlib.Core.Bool.{Bool, true, false}
 use mathlib.Core.List.{List}
 use Prim.Native.Nat.{ℕ, min, _+_, _<_, _≤_}
@@ -9,15 +9,14 @@ use native.Mathlib.Decide.{ℕ-discrete}
 use Rattle.plan.specs.Limits.{farthest}
 use Rattle.tables.specs.declared.table.Part.{Part}
 use Rattle.rows.specs.declared.sheet.Row.{Row}
-use Rattle.tables.specs.Tables.{side}
-use Rattle.tables.specs.Entries.{at, Sound, CloseDone, Ended, closed, strayed}
+use Rattle.tables.specs.Tables.{side, Closed}
+use Rattle.tables.specs.Entries.{at, Sound, CloseReady, CloseDone}
 use Rattle.tables.specs.Distances.{Inside, Drawn}
 use Rattle.tables.specs.Steps.{OfferedOf, takesOf, Begun, PartOf}
 use Rattle.rows.specs.Sheet.{kindAt, fromAt, toAt, firstAt, secondAt, overAt, rowAt, by, Laid, ordinary, there, back, wait, SheetEdge, SheetReady, Drawing}
 use Rattle.rows.specs.Filled.{PutReady, Put, ordinary-put, wait-put, link-put, nothing-put, LayReady}
 use Rattle.rows.specs.Filled.{Verdict, Filled}
 use Rattle.tables.proofs.Closing.{distances, cycle}
-use Rattle.tables.proofs.Strays.{near-or-cycle}
 use Rattle.tables.proofs.Widths.{shallow}
 use Rattle.tables.proofs.Offers.{Plus, old, new, same, at-place, plus-part, begun}
 
@@ -216,19 +215,19 @@ none-yet b s w n t few h = record { sound = h .sound; drawn = begun (PartOf b (S
 pub drawn-all : {b : Part} {s w : List ℕ} {n m q : ℕ} {t : List ℕ} → m ≤ q → (q ≤ m) × Drawing b s w n q t → Drawing b s w n m t
 drawn-all {b} {s} {w} {n} {m} {q} {t} h d = let e : q ≡ m = omega arith in subst (λ (i : ℕ). Drawing b s w n i t) e (d .1)
 
+-- it can be closed
+pub closable : {b : Part} {s w : List ℕ} {m n : ℕ} {t : List ℕ} → SheetReady s w m n → Drawing b s w n m t → CloseReady n t
+closable ready d = record { sound = d .sound; few = ready .few; self = d .drawn .self; within = d .drawn .within }
+
 -- the table of all rows, closed
 pub filled : {b : Part} {s w : List ℕ} {m n : ℕ} {t t′ : List ℕ} {r : Bool} → SheetReady s w m n → Drawing b s w n m t → CloseDone n t t′ r → Filled b s w m n t′ r
-filled {b} {s} {w} {m} {n} {t} {t′} {r} ready d c = record { sound = c .sound; verdict = go r (c .ended) }
+filled {b} {s} {w} {m} {n} {t} {t′} {r} ready d c = record { sound = c .sound; verdict = go r (c .closed) }
   where
     in-part : Inside (PartOf b (SheetEdge s w m)) n
     in-part X Y u v e = inside ready (omega arith) X Y u v (e .edge)
 
-    go : (r : Bool) → Ended n (at t) r (at t′) → Verdict (PartOf b (SheetEdge s w m)) n t′ r
-    go true (closed k) =
+    go : (r : Bool) → Closed n (at t) r (at t′) → Verdict (PartOf b (SheetEdge s w m)) n t′ r
+    go true k =
         let all = distances (PartOf b (SheetEdge s w m)) n in-part (ready .few) (at t) (d .drawn) k in
         (all .0, all .1, shallow t′ (ready .few) (c .sound))
-    go false (closed k) = cycle (PartOf b (SheetEdge s w m)) n in-part (ready .few) (at t) (d .drawn) k
-    go false (strayed {x = x} {y = y} k hx hy h out) = ⊎-elim
-        (λ z. z)
-        (λ near. let no : ⊥ = ⊎-elim (λ l. omega (arith, near .0)) (λ l. omega (arith, near .1)) out in absurd no)
-        (near-or-cycle (PartOf b (SheetEdge s w m)) n (ready .few) (at t) (d .drawn) k x y hx hy h)
+    go false k = cycle (PartOf b (SheetEdge s w m)) n in-part (ready .few) (at t) (d .drawn) k

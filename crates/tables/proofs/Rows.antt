@@ -1,74 +1,15 @@
 -- A pass in place, row by row. Assumes nothing.
-use mathlib.Core.Path.{_≡_, refl, sym, _∙_}
+use mathlib.Core.Path.{_≡_, refl, _∙_}
 use mathlib.Core.Logic.{_⊎_, _≢_, inl, inr, ⊎-elim}
-use mathlib.Core.Bool.{Bool, true, false, _&&_}
 use mathlib.Core.List.{List}
 use Prim.Native.Nat.{ℕ, _+_, _-_, _*_, _<_, _≤_}
 use native.Mathlib.Omega.{arith}
 use native.Mathlib.Decide.{decLt, ℕ-discrete}
-use lib.Dec.{ltb, leb}
 use lib.ListN.{length, getD, set, replicate, length-set, length-replicate, getD-replicate}
-use borrow.Author.Tests.{lt-ltb, le-ltb, leb-true, leb-false}
 use lib.Seq.{getD-set-same, getD-set-other}
 use Rattle.tables.specs.Tables.{side, room, Best}
-use Rattle.tables.specs.Entries.{wide, middle, nowhere, floor, ceiling, low, high, far, raw, at, Lower, Lesser, Near, nearOf, Sound, Lifted, LiftedRow, Tame, Strays, TameOf, RowReady, RowDone, StepReady, StepDone, PassReady, PassDone}
+use Rattle.tables.specs.Entries.{wide, middle, nowhere, floor, ceiling, low, high, far, raw, at, Lower, Lesser, Near, Sound, Lifted, LiftedRow, RowReady, RowDone, StepReady, StepDone, PassReady, PassDone}
 use Rattle.tables.proofs.Widths.{wide-best}
-
--- ---- looking at the row and the column of a pivot
-
-both : (a b : Bool) → a && b ≡ true → (a ≡ true) × (b ≡ true)
-both true b h = (refl, h)
-both false b h = absurd (let z : _≡_ {A = ℕ} 0 1 = cc in omega arith)
-
-near-so : (v : ℕ) → nearOf v ≡ true → Near v
-near-so v e h = let p = both (leb low v) (leb v high) (rw (lt-ltb v nowhere h) at e) in (leb-true low v (p .0), leb-true v high (p .1))
-
-near-not : (v : ℕ) → nearOf v ≡ false → (v < nowhere) × ((v < low) ⊎ (high < v))
-near-not v e = elim (decLt v nowhere) [
-  | yes h ↦ (h, go (leb low v) refl (rw (lt-ltb v nowhere h) at e))
-  | no h ↦ absurd (let z : _≡_ {A = ℕ} 0 1 = clash (rw (le-ltb v nowhere (omega arith)) at e) in omega arith)
-]
-  where
-    clash : true ≡ false → _≡_ {A = ℕ} 0 1
-    clash k = cc
-
-    go : (b : Bool) → leb low v ≡ b → b && leb v high ≡ false → (v < low) ⊎ (high < v)
-    go true k f = inr (leb-false v high f)
-    go false k f = inl (leb-false low v k)
-
-pub record Seen (n k : ℕ) (t : List ℕ) (j : ℕ) (good : Bool) : Type 0 where
-  pub within : j ≤ n
-  pub near : good ≡ true → (y : ℕ) → y < j → Near (raw t k y) × Near (raw t y k)
-  pub stray : good ≡ false → Strays n t
-
-pub seen-start : (n k : ℕ) (t : List ℕ) → Seen n k t 0 true
-seen-start n k t = record { within = omega arith; near = λ e y h. absurd (omega arith); stray = λ e. absurd (let z : _≡_ {A = ℕ} 0 1 = cc in omega arith) }
-
-module _ (n k : ℕ) (t : List ℕ) (j : ℕ) (good a b : Bool) (hk : k < n) (h : j < n) (s : Seen n k t j good) (ea : a ≡ nearOf (raw t k j)) (eb : b ≡ nearOf (raw t j k)) where
-  outside : {v : ℕ} → (x y : ℕ) → v ≡ raw t x y → x < n → y < n → nearOf v ≡ false → Strays n t
-  outside {v} x y e hx hy f = let p = near-not v f in record { x = x; y = y; from = hx; to = hy; there = omega (arith, p .0); out = ⊎-elim (λ l. inl (omega arith)) (λ l. inr (omega arith)) (p .1) }
-
-  pub seen-turn : Seen n k t (j + 1) ((good && a) && b)
-  seen-turn = record { within = omega arith; near = all; stray = some good a b refl (sym ea) (sym eb) }
-    where
-      all : (good && a) && b ≡ true → (y : ℕ) → y < j + 1 → Near (raw t k y) × Near (raw t y k)
-      all e y l =
-          let p = both (good && a) b e in
-          let q = both good a (p .0) in
-          elim (ℕ-discrete y j) [
-            | yes d ↦ rw d (near-so (raw t k j) (sym ea ∙ q .1), near-so (raw t j k) (sym eb ∙ p .1))
-            | no d ↦ s .near (q .0) y (omega arith)
-          ]
-
-      some : (g c d : Bool) → good ≡ g → nearOf (raw t k j) ≡ c → nearOf (raw t j k) ≡ d → (g && c) && d ≡ false → Strays n t
-      some false c d eg ec ed e = s .stray eg
-      some true false d eg ec ed e = outside k j refl hk h ec
-      some true true false eg ec ed e = outside j k refl h hk ed
-      some true true true eg ec ed e = absurd (let z : _≡_ {A = ℕ} 0 1 = cc in omega arith)
-
-pub seen-ended : (n k : ℕ) (t : List ℕ) (j : ℕ) (good : Bool) → n ≤ j → Seen n k t j good → TameOf n k t good
-seen-ended n k t j true h s = record { row = λ y l. s .near refl y (omega arith) .0; column = λ y l. s .near refl y (omega arith) .1 }
-seen-ended n k t j false h s = s .stray refl
 
 -- ---- a row lifted
 

@@ -2,13 +2,14 @@
 -- out. Assumes nothing.
 use mathlib.Core.Path.{_≡_}
 use mathlib.Core.Logic.{_⊎_, _≢_}
-use mathlib.Core.Bool.{Bool, true, false, _&&_}
+use mathlib.Core.Bool.{Bool}
 use mathlib.Core.List.{List}
 use Prim.Native.Nat.{ℕ, _+_, _*_, _<_, _≤_}
-use lib.Dec.{ltb, leb}
+use lib.Dec.{ltb}
 use lib.ListN.{length, getD}
 use Rattle.plan.specs.Choice.{if_then_else_}
-use Rattle.tables.specs.Tables.{Table, bias, none, side, room, Passed, Closing, Closed}
+use Rattle.plan.specs.Limits.{farthest}
+use Rattle.tables.specs.Tables.{Table, bias, none, side, room, Passed, Closed, Within}
 
 -- the distance v is kept as middle + v; nowhere says that no walk joins the two points, and nothing is above it
 abbrev pub middle : ℕ
@@ -17,10 +18,7 @@ middle = 536870912
 abbrev pub nowhere : ℕ
 nowhere = 1073741824
 
--- what a pass adds is nowhere, or within span of middle: between low and high
-abbrev pub span : ℕ
-span = 134217728
-
+-- what a pass adds is nowhere, or between low and high
 abbrev pub low : ℕ
 low = 402653184
 
@@ -58,12 +56,9 @@ pub record Lesser (a b r : ℕ) : Type 0 where
   pub second : r ≤ b
   pub from : (r ≡ a) ⊎ (r ≡ b)
 
--- a number that can be added to another, or nowhere; and that test
+-- a number that can be added to another, or nowhere
 abbrev pub Near : ℕ → Type 0
 Near v = v < nowhere → (low ≤ v) × (v ≤ high)
-
-abbrev pub nearOf : ℕ → Bool
-nearOf v = if ltb v nowhere then leb low v && leb v high else true
 
 -- r is the lesser of a and of the sum of b and c
 pub record Lower (a b c r : ℕ) : Type 0 where
@@ -89,22 +84,10 @@ pub record LiftedRow (n k : ℕ) (t l : List ℕ) : Type 0 where
   pub each : (j : ℕ) → j < n → Lifted (raw t k j) (getD l j 0)
   pub past : (j : ℕ) → n ≤ j → j < side → getD l j 0 ≡ far
 
--- the row and the column of k can be added; or some number of the table cannot
+-- the row and the column of k can be added
 pub record Tame (n k : ℕ) (t : List ℕ) : Type 0 where
   pub row : (j : ℕ) → j < n → Near (raw t k j)
   pub column : (i : ℕ) → i < n → Near (raw t i k)
-
-pub record Strays (n : ℕ) (t : List ℕ) : Type 0 where
-  pub x : ℕ
-  pub y : ℕ
-  pub from : x < n
-  pub to : y < n
-  pub there : raw t x y < nowhere
-  pub out : (raw t x y < low) ⊎ (high < raw t x y)
-
-abbrev pub TameOf : ℕ → ℕ → List ℕ → Bool → Type 0
-TameOf n k t true = Tame n k t
-TameOf n k t false = Strays n t
 
 -- what one row of a pass asks, b being the entry at (i, k), and what it does
 pub record RowReady (i b : ℕ) (l t : List ℕ) : Type 0 where
@@ -152,16 +135,13 @@ depth = 268435456
 abbrev pub Shallow : ℕ → Table → Type 0
 Shallow n f = (x y : ℕ) → x < n → y < n → f x y < none → bias ≤ f x y + depth
 
--- what closing asks, and what it does: the table is closed, or some point is below zero from itself to itself, or some number
--- has left the range
+-- what closing asks, no entry further from zero than an edge can be and no point above zero from itself to itself; and what it does
 pub record CloseReady (n : ℕ) (t : List ℕ) : Type 0 where
   pub sound : Sound t
   pub few : n ≤ side
-
-pub data Ended (n : ℕ) (f : Table) : Bool → Table → Type 0 where
-  closed : {r : Bool} {g : Table} → Closed n f r g → Ended n f r g
-  strayed : {k x y : ℕ} {g : Table} → Closing n f k g → x < n → y < n → g x y < none → (g x y + span < bias) ⊎ (bias + span < g x y) → Ended n f false g
+  pub self : (x : ℕ) → x < n → at t x x ≤ bias
+  pub within : Within farthest n (at t)
 
 pub record CloseDone (n : ℕ) (t t′ : List ℕ) (r : Bool) : Type 0 where
   pub sound : Sound t′
-  pub ended : Ended n (at t) r (at t′)
+  pub closed : Closed n (at t) r (at t′)

@@ -1,5 +1,5 @@
 -- `vee::sheet::fill` meets its contract. Assumes nothing.
-use Rattle.rows.proofs.Lays.{filled}
+use Rattle.rows.proofs.Lays.{closable, filled}
 use native.Mathlib.Omega.{arith}
 use borrow.Author.Needs.{needs}
 use Rattle.rows.proofs.sheet.fill.Statement.{statement}
@@ -9,7 +9,7 @@ draw-requires : tie.Need-draw-requires
 draw-requires c κs = search needs
 
 close-requires : tie.Need-close-requires
-close-requires c κs = search needs
+close-requires c κs = closable (c .before .before .before .pre) (c .before .draw .ensures)
 
 returns : tie.Need-returns
 returns c = filled (c .before .before .before .before .pre) (c .before .before .draw .ensures) (c .close .ensures)

@@ -2,7 +2,7 @@
 use Prim.Native.Nat.{ℕ, _-_, _<_, _≤_}
 use borrow.Author.Count.{below-more}
 use Rattle.tables.specs.Entries.{middle, raw}
-use Rattle.tables.proofs.Closings.{Shutting, start, ready, turn, negative, given-up, ended}
+use Rattle.tables.proofs.Closings.{Shutting, start, ready, turn, negative, ended}
 use borrow.Author.Needs.{needs}
 use native.Mathlib.Omega.{arith}
 use Rattle.tables.proofs.table.close.Statement.{statement}
@@ -38,14 +38,8 @@ element-copy-out-if1 c = search needs
 returns : tie.Need-returns Inv-loop μ-loop Inv-loop2 μ-loop2
 returns c = negative (c .before .before .before .loop .inv) _ (c .before .before .loop-test .taken) (c .if1 .taken)
 
-tame-requires : tie.Need-tame-requires Inv-loop μ-loop Inv-loop2 μ-loop2
-tame-requires c κs = search needs
-
-returns-2 : tie.Need-returns-2 Inv-loop μ-loop Inv-loop2 μ-loop2
-returns-2 c = given-up (c .before .before .before .before .before .before .loop .inv) (c .before .tame .result) (c .if2 .taken) (c .before .tame .ensures)
-
 pass-requires : tie.Need-pass-requires Inv-loop μ-loop Inv-loop2 μ-loop2
-pass-requires c κs = ready (c .before .before .before .before .before .before .before .loop .inv) (c .before .before .tame .result) (c .before .if2 .left) (c .before .before .before .before .before .before .loop-test .taken) (c .before .before .tame .ensures)
+pass-requires c κs = ready (c .before .before .before .before .loop .inv) (c .before .before .before .loop-test .taken)
 
 add-k : tie.Need-add-k Inv-loop μ-loop Inv-loop2 μ-loop2
 add-k c = search needs
@@ -54,25 +48,25 @@ loop-less : tie.Need-loop-less Inv-loop μ-loop Inv-loop2 μ-loop2
 loop-less c = search needs
 
 loop-again : tie.Need-loop-again Inv-loop μ-loop Inv-loop2 μ-loop2
-loop-again c = turn (c .before .before .before .before .before .before .before .before .loop .inv) (c .before .before .before .before .before .before .before .loop-test .taken) (c .before .before .before .before .before .if1 .left) (c .pass .ensures)
+loop-again c = turn (c .before .before .before .before .before .loop .inv) (c .before .before .before .before .loop-test .taken) (c .before .before .if1 .left) (c .pass .ensures)
 
 loop2-holds : tie.Need-loop2-holds Inv-loop μ-loop Inv-loop2 μ-loop2
 loop2-holds c = (omega arith, λ x h. absurd (omega arith))
 
-mul-if3 : tie.Need-mul-if3 Inv-loop μ-loop Inv-loop2 μ-loop2
-mul-if3 c = search needs
+mul-if2 : tie.Need-mul-if2 Inv-loop μ-loop Inv-loop2 μ-loop2
+mul-if2 c = search needs
 
-add-if3 : tie.Need-add-if3 Inv-loop μ-loop Inv-loop2 μ-loop2
-add-if3 c = search needs
+add-if2 : tie.Need-add-if2 Inv-loop μ-loop Inv-loop2 μ-loop2
+add-if2 c = search needs
 
-mul-if3-2 : tie.Need-mul-if3-2 Inv-loop μ-loop Inv-loop2 μ-loop2
-mul-if3-2 c = search needs
+mul-if2-2 : tie.Need-mul-if2-2 Inv-loop μ-loop Inv-loop2 μ-loop2
+mul-if2-2 c = search needs
 
-element-copy-out-if3 : tie.Need-element-copy-out-if3 Inv-loop μ-loop Inv-loop2 μ-loop2
-element-copy-out-if3 c = search needs
+element-copy-out-if2 : tie.Need-element-copy-out-if2 Inv-loop μ-loop Inv-loop2 μ-loop2
+element-copy-out-if2 c = search needs
 
-returns-3 : tie.Need-returns-3 Inv-loop μ-loop Inv-loop2 μ-loop2
-returns-3 c = negative (c .before .before .before .before .before .loop .inv) _ (c .before .before .loop2-test .taken) (c .if3 .taken)
+returns-2 : tie.Need-returns-2 Inv-loop μ-loop Inv-loop2 μ-loop2
+returns-2 c = negative (c .before .before .before .before .before .loop .inv) _ (c .before .before .loop2-test .taken) (c .if2 .taken)
 
 add-i : tie.Need-add-i Inv-loop μ-loop Inv-loop2 μ-loop2
 add-i c = search needs
@@ -81,10 +75,10 @@ loop2-less : tie.Need-loop2-less Inv-loop μ-loop Inv-loop2 μ-loop2
 loop2-less c = search needs
 
 loop2-again : tie.Need-loop2-again Inv-loop μ-loop Inv-loop2 μ-loop2
-loop2-again c = (omega arith, below-more _ _ (c .before .before .before .loop2 .inv .1) (c .if3 .left))
+loop2-again c = (omega arith, below-more _ _ (c .before .before .before .loop2 .inv .1) (c .if2 .left))
 
-returns-4 : tie.Need-returns-4 Inv-loop μ-loop Inv-loop2 μ-loop2
-returns-4 c = ended (c .before .before .before .loop .inv) (c .before .before .loop-test .left) (c .loop2-test .left) (c .before .loop2 .inv .1)
+returns-3 : tie.Need-returns-3 Inv-loop μ-loop Inv-loop2 μ-loop2
+returns-3 c = ended (c .before .before .before .loop .inv) (c .before .before .loop-test .left) (c .loop2-test .left) (c .before .loop2 .inv .1)
 
 pub close-spec : {M : Type 1} → statement M
 close-spec =
@@ -100,19 +94,17 @@ close-spec =
     mul-if1-2
     element-copy-out-if1
     returns
-    tame-requires
-    returns-2
     pass-requires
     add-k
     loop-less
     loop-again
     loop2-holds
-    mul-if3
-    add-if3
-    mul-if3-2
-    element-copy-out-if3
-    returns-3
+    mul-if2
+    add-if2
+    mul-if2-2
+    element-copy-out-if2
+    returns-2
     add-i
     loop2-less
     loop2-again
-    returns-4)
+    returns-3)

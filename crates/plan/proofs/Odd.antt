@@ -20,7 +20,6 @@ use Rattle.plan.specs.Inside.{whats, firstOdd, withOdd}
 use Rattle.plan.proofs.Limited.{records-of-plan}
 use Rattle.plan.proofs.Pairing.{check-each}
 use Rattle.records.specs.declared.Record.{Record}
-use Rattle.plan.specs.declared.Plan.{Plan}
 use Rattle.plan.specs.declared.Refusal.{Refusal}
 
 -- ---- one record
@@ -168,10 +167,9 @@ odd-first m rs (e ∷ es) = go (eqb (e .reserved) 0) (eqb number 0) refl refl (o
         rw (t, o, still-refused (sooner number) number (eqb-false number 0 u), u, ne-eqb _ _ k, add-zero (length rs), u) (itself (length rs) number)
 
 -- of a file's entries es the first bad one, by the check of the plan that they make
-pub odd-beside : (es : List Entry) (p : Plan) → p ≡ planOf (whats es) → 1 ≤ length es → length es ≤ mostRecords
-    → firstBad [] es ≡ beside (length es) (firstOdd es) (checkOf p)
-odd-beside es p e some few =
+pub odd-beside : (es : List Entry) → 1 ≤ length es → length es ≤ mostRecords → firstBad [] es ≡ beside (length es) (firstOdd es) (checkOf (planOf (whats es)))
+odd-beside es some few =
     let n : length (whats es) ≡ length es = length-map es (λ (e : Entry). e .what) in
-    let c : firstBad [] (map plain (whats es)) ≡ checkOf p =
-    ap (λ (rs : List Record). firstBad [] (map plain rs)) (sym (records-of-plan (whats es))) ∙ check-each (planOf (whats es)) (λ z. omega (arith, n)) (omega (arith, n)) ∙ ap checkOf (sym e) in
+    let c : firstBad [] (map plain (whats es)) ≡ checkOf (planOf (whats es)) =
+    ap (λ (rs : List Record). firstBad [] (map plain rs)) (sym (records-of-plan (whats es))) ∙ check-each (planOf (whats es)) (λ z. omega (arith, n)) (omega (arith, n)) in
     rw (← c, ← (zero-add (length es)), ← (zero-add (firstOdd es))) (odd-first mostOrdinary [] es)

@@ -199,12 +199,11 @@ fn with_odd(found: Refusal, odd: u32) -> Refusal
     }
 }
 
-// The first bad record of a file whose records are those of the plan.
-fn first_bad(plan: Plan, bytes: &[u8], count: usize) -> Refusal
-    requires { ⌜ (recordBytes * count ≤ length (now bytes)) × (1 ≤ count) × (count ≤ mostRecords) × (plan ≡ planOf (recordsIn count (now bytes))) ⌝ }
+// The first bad record of a file, where `found` is what the check of its records' plan says.
+fn first_bad(found: Refusal, bytes: &[u8], count: usize) -> Refusal
+    requires { ⌜ (recordBytes * count ≤ length (now bytes)) × (1 ≤ count) × (count ≤ mostRecords) × (found ≡ checkOf (planOf (recordsIn count (now bytes)))) ⌝ }
     ensures { λ x. ⌜ x ≡ firstBad [] (entriesIn count (now (bytes .entry))) ⌝ }
 {
-    let found = check(plan);
     let odd = first_odd(bytes, count);
     if odd == count {
         return found;
@@ -228,7 +227,7 @@ pub fn read(bytes: &[u8]) -> Reading
     }
     let count = n / RECORD_BYTES;
     let plan = decode(bytes, count);
-    let found = first_bad(plan, bytes, count);
+    let found = first_bad(check(plan), bytes, count);
     if found.number != ACCEPTED {
         return refuse(found.number, found.place);
     }

@@ -2,8 +2,8 @@
 use borrow.Author.Needs.{needs}
 use borrow.Author.Tests.{eq-eqb, ne-eqb, lt-ltb, le-ltb}
 use native.Mathlib.Omega.{arith}
-use mathlib.Core.Path.{ap}
-use Rattle.plan.specs.ReplyNumbers.{readWith}
+use mathlib.Core.Path.{ap, _∙_}
+use Rattle.plan.specs.ReplyNumbers.{readWith, checkOf}
 use Rattle.plan.specs.declared.Plan.{Plan}
 use Rattle.plan.proofs.read.Statement.{statement}
 use Rattle.plan.proofs.read.Tie as tie
@@ -32,8 +32,11 @@ returns-3 c = rw (ne-eqb _ _ (c .before .before .before .if1 .left), eq-eqb _ _ 
 decode-requires : tie.Need-decode-requires
 decode-requires c κs = search needs
 
+check-requires : tie.Need-check-requires
+check-requires c κs = search needs
+
 first-bad-requires : tie.Need-first-bad-requires
-first-bad-requires c κs = (omega arith, omega arith, omega arith, c .decode .ensures)
+first-bad-requires c κs = (omega arith, omega arith, omega arith, c .check .ensures ∙ ap checkOf (c .before .decode .ensures))
 
 refuse-requires-4 : tie.Need-refuse-requires-4
 refuse-requires-4 c κs = search needs
@@ -42,9 +45,9 @@ returns-4 : tie.Need-returns-4
 unfolding readWith
 returns-4 c =
     rw (
-      ne-eqb _ _ (c .before .before .before .before .before .before .before .if1 .left),
-      eq-eqb _ _ (c .before .before .before .before .before .before .if2 .left),
-      le-ltb _ _ (c .before .before .before .before .before .if3 .left),
+      ne-eqb _ _ (c .before .before .before .before .before .before .before .before .if1 .left),
+      eq-eqb _ _ (c .before .before .before .before .before .before .before .if2 .left),
+      le-ltb _ _ (c .before .before .before .before .before .before .if3 .left),
       ← (c .before .before .before .first-bad .ensures),
       ne-eqb _ _ (c .before .if4 .taken),
     )
@@ -54,13 +57,13 @@ returns-5 : tie.Need-returns-5
 unfolding readWith
 returns-5 c =
     rw (
-      ne-eqb _ _ (c .before .before .before .before .before .before .if1 .left),
-      eq-eqb _ _ (c .before .before .before .before .before .if2 .left),
-      le-ltb _ _ (c .before .before .before .before .if3 .left),
+      ne-eqb _ _ (c .before .before .before .before .before .before .before .if1 .left),
+      eq-eqb _ _ (c .before .before .before .before .before .before .if2 .left),
+      le-ltb _ _ (c .before .before .before .before .before .if3 .left),
       ← (c .before .before .first-bad .ensures),
       eq-eqb _ _ (c .if4 .left),
     )
-    (ap (λ (p : Plan). record { number = 0; place = 0; plan = p }) (c .before .before .before .decode .ensures))
+    (ap (λ (p : Plan). record { number = 0; place = 0; plan = p }) (c .before .before .before .before .decode .ensures))
 
 pub read-spec : {M : Type 1} → statement M
 read-spec =
@@ -73,6 +76,7 @@ read-spec =
     refuse-requires-3
     returns-3
     decode-requires
+    check-requires
     first-bad-requires
     refuse-requires-4
     returns-4

@@ -8,6 +8,8 @@ pub mod RoundTrip
 pub mod OldFiles
 pub mod Holding
 pub mod Accepted
+mod Decoding
+mod Odd
 mod Pairing
 mod Lookup
 mod Writing

@@ -8,14 +8,15 @@ use native.Mathlib.Omega.{arith}
 use native.Mathlib.Numerals.{add-one}
 use lib.Dec.{eqb}
 use lib.ListN.{length, take, drop, getD, set, replicate, length-map, drop-of-length-le}
-use lib.Seq.{take-suc, drop-cons, length-take-le}
-use borrow.Author.Tests.{eqb-true}
+use lib.Seq.{take-suc, drop-cons, length-take-le, set-getD}
+use borrow.Author.Tests.{eqb-true, ne-eqb}
 use Rattle.plan.specs.Choice.{if_then_else_}
 use Rattle.plan.specs.Limits.{mostPoints, mostRecords}
 use Rattle.plan.specs.APlan.{point, link, ordinary, wait, is, blank}
 use Rattle.plan.specs.PlanFile.{Entry}
 use Rattle.plan.specs.ReplyNumbers.{after, numberOf, firstBad, firstBadWith, refusal, accepted}
 use Rattle.plan.specs.Held.{plain}
+use Rattle.plan.specs.Inside.{whats}
 use Rattle.rules.specs.Inside.{Few, fresh, told, noEnding, withRecord, endingAfter, secondsAfter, oneOf}
 use Rattle.records.proofs.Records.{many-le}
 use Rattle.rules.proofs.Shows.{Shows, shows-none, same-number, shows-more}
@@ -23,9 +24,6 @@ use Rattle.records.specs.declared.Record.{Record}
 use Rattle.rules.specs.declared.Seen.{Seen}
 use Rattle.rules.specs.declared.Ending.{Ending}
 use Rattle.rules.specs.declared.One.the-variants.{Good, Bad}
-
-abbrev pub whats : List Entry → List Record
-whats es = map (λ (e : Entry). e .what) es
 
 -- one entry: it is bad, or the next is looked at
 module _ (rs : List Record) (e : Entry) (es : List Entry) where
@@ -114,3 +112,16 @@ module _ (es : List Entry) (i : ℕ) (s : Seen) (ends : List Ending) (seconds : 
           shows = rw w (shows-more before s ends seconds (f .shows) (next .what) (next .reserved) (eqb-true _ 0 good));
           rest = rw (w, add-one i) (rw (good-here before next (drop (suc i) es) good) at rest-here);
         })
+
+    -- an ordinary record leaves the table of links as it is, any other the sets of seconds
+    pub sofar-ordinary : (t : Seen) → oneOf s end led (next .what) (next .reserved) ≡ Good t → next .what .kind ≡ 3
+        → Sofar es (i + 1) t ends (set seconds (next .what .a % mostPoints) (secondsAfter (next .what) led))
+    sofar-ordinary t e k =
+        let f : endingAfter (next .what) end ≡ end = rw k in
+        rw (f, set-getD ends (next .what .b % mostPoints) noEnding) at (sofar-good t e)
+
+    pub sofar-other : (t : Seen) → oneOf s end led (next .what) (next .reserved) ≡ Good t → (next .what .kind ≡ 3 → ⊥)
+        → Sofar es (i + 1) t (set ends (next .what .b % mostPoints) (endingAfter (next .what) end)) seconds
+    sofar-other t e n =
+        let f : secondsAfter (next .what) led ≡ led = rw (ne-eqb (next .what .kind) 3 n) in
+        rw (f, set-getD seconds (next .what .a % mostPoints) 0) at (sofar-good t e)

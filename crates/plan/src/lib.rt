@@ -4,10 +4,12 @@
 // handed on here. Every open function takes any bytes and any plan and answers; none asks anything of its caller.
 ghost use mathlib.Core.Path.{_≡_};
 ghost use mathlib.Core.List.{[]};
-ghost use Prim.Native.Nat.{_≤_, min};
-ghost use Rattle.plan.specs.Limits.{mostRecords};
+ghost use Prim.Native.Nat.{_*_, _≤_, min};
+ghost use lib.ListN.{length};
+ghost use Rattle.plan.specs.Limits.{mostRecords, recordBytes};
 ghost use Rattle.plan.specs.APlan.{planOf, recordsOf, howMany, points, links, endsAt, watched, placeOf};
-ghost use Rattle.plan.specs.Inside.{entriesOf, ofByte};
+ghost use Rattle.plan.specs.PlanFile.{entriesIn};
+ghost use Rattle.plan.specs.Inside.{recordsIn, firstOdd, withOdd, ofByte};
 ghost use Rattle.plan.specs.ReplyNumbers.{firstBad, readOf, checkOf, writeOf, writtenOf, refusal, refused};
 pub use numbers::Gap;
 pub use numbers::split;
@@ -23,10 +25,10 @@ pub use records::POINT;
 pub use records::RECORD_BYTES;
 pub use records::Record;
 pub use records::WAIT;
-use records::decode;
 use records::no_records;
 use records::one_if;
 use records::put_records;
+use records::record_in;
 pub use rules::ACCEPTED;
 use rules::Ending;
 pub use rules::KIND_FALLS;
@@ -104,11 +106,25 @@ fn refuse(number: u32, place: u32) -> Reading
     }
 }
 
-// The records of a plan in file order, each with its byte 3: the first bad one's number and place.
-fn test_records(plan: Plan, reserved: [u8; MOST_RECORDS]) -> Refusal
-    requires { ⌜ plan .count ≤ mostRecords ⌝ }
-    ensures { λ x. ⌜ x ≡ firstBad [] (entriesOf plan reserved) ⌝ }
+fn answer(number: u32, place: u32) -> Refusal
+    ensures { λ r. ⌜ r ≡ refusal number place ⌝ }
 {
+    Refusal {
+        number: number,
+        place: place,
+    }
+}
+
+// What reading a plan's records would give: the records in file order, the first bad one's number and place.
+pub fn check(plan: Plan) -> Refusal
+    ensures { λ x. ⌜ x ≡ checkOf plan ⌝ }
+{
+    if plan.count == 0 {
+        return answer(NO_BYTES, 0);
+    }
+    if MOST_RECORDS < plan.count as usize {
+        return answer(TOO_LONG, 0);
+    }
     let count = plan.count as usize;
     let mut seen = Seen::none();
     let nothing = Ending {
@@ -124,22 +140,75 @@ fn test_records(plan: Plan, reserved: [u8; MOST_RECORDS]) -> Refusal
         let end = ends[c];
         let a = r.a as usize % POINT_ROOM;
         let led = seconds[a];
-        let one = seen.read_one(r, reserved[i], end, led);
+        let one = seen.read_one(r, 0, end, led);
         let One::Good(next) = one else {
-            return Refusal {
-                number: number_in(one),
-                place: i as u32,
-            };
+            return answer(number_in(one), i as u32);
         };
         seen = next;
+        i += 1;
+        if r.kind == ORDINARY {
+            seconds[a] = seconds_after(r, led);
+            continue;
+        }
         ends[c] = ending_after(r, end);
-        seconds[a] = seconds_after(r, led);
+    }
+    answer(ACCEPTED, 0)
+}
+
+// The plan of the first `count` records of a file, as they stand there.
+fn decode(bytes: &[u8], count: usize) -> Plan
+    requires { ⌜ (recordBytes * count ≤ length (now bytes)) × (count ≤ mostRecords) ⌝ }
+    ensures { λ p. ⌜ p ≡ planOf (recordsIn count (now (bytes .entry))) ⌝ }
+{
+    let mut plan = empty();
+    plan.count = count as u32;
+    let mut i: usize = 0;
+    while i < count {
+        let at = RECORD_BYTES * i;
+        plan.records[i] = record_in(&bytes[at..]);
         i += 1;
     }
-    Refusal {
-        number: ACCEPTED,
-        place: 0,
+    plan
+}
+
+// The place of the first of a file's records whose byte 3 is not zero, or how many records there are.
+fn first_odd(bytes: &[u8], count: usize) -> usize
+    requires { ⌜ recordBytes * count ≤ length (now bytes) ⌝ }
+    ensures { λ i. ⌜ i ≡ firstOdd (entriesIn count (now (bytes .entry))) ⌝ }
+{
+    let mut i: usize = 0;
+    while i < count {
+        if bytes[RECORD_BYTES * i + 3] != 0 {
+            return i;
+        }
+        i += 1;
     }
+    count
+}
+
+// What is refused first, where `found` would be if every byte 3 were zero and the first that is not stands at the place `odd`:
+// that record, with 7, unless an earlier one is refused or it is itself for what comes before 7.
+fn with_odd(found: Refusal, odd: u32) -> Refusal
+    ensures { λ r. ⌜ r ≡ withOdd odd found ⌝ }
+{
+    let sooner = (found.place < odd) | ((found.place == odd) & (found.number < NOT_ZERO));
+    if (found.number != ACCEPTED) & sooner {
+        found
+    } else {
+        answer(NOT_ZERO, odd)
+    }
+}
+
+// The first bad record of a file, where `found` is what the check of its records' plan says.
+fn first_bad(found: Refusal, bytes: &[u8], count: usize) -> Refusal
+    requires { ⌜ (recordBytes * count ≤ length (now bytes)) × (1 ≤ count) × (count ≤ mostRecords) × (found ≡ checkOf (planOf (recordsIn count (now bytes)))) ⌝ }
+    ensures { λ x. ⌜ x ≡ firstBad [] (entriesIn count (now (bytes .entry))) ⌝ }
+{
+    let odd = first_odd(bytes, count);
+    if odd == count {
+        return found;
+    }
+    with_odd(found, odd as u32)
 }
 
 // Reads a plan file: the plan, or the number and the first bad record.
@@ -157,14 +226,8 @@ pub fn read(bytes: &[u8]) -> Reading
         return refuse(TOO_LONG, 0);
     }
     let count = n / RECORD_BYTES;
-    let decoded = decode(bytes, count);
-    let records = decoded.records;
-    let plan = Plan {
-        count: count as u32,
-        records: records,
-    };
-    let reserved = decoded.reserved;
-    let found = test_records(plan, reserved);
+    let plan = decode(bytes, count);
+    let found = first_bad(check(plan), bytes, count);
     if found.number != ACCEPTED {
         return refuse(found.number, found.place);
     }
@@ -173,25 +236,6 @@ pub fn read(bytes: &[u8]) -> Reading
         place: 0,
         plan: plan,
     }
-}
-
-// What reading a plan's records would give.
-pub fn check(plan: Plan) -> Refusal
-    ensures { λ x. ⌜ x ≡ checkOf plan ⌝ }
-{
-    if plan.count == 0 {
-        return Refusal {
-            number: NO_BYTES,
-            place: 0,
-        };
-    }
-    if MOST_RECORDS < plan.count as usize {
-        return Refusal {
-            number: TOO_LONG,
-            place: 0,
-        };
-    }
-    test_records(plan, [0u8; MOST_RECORDS])
 }
 
 // Writes a plan's file into the front of the buffer; a refusal changes no byte of it.

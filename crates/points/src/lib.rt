@@ -20,13 +20,7 @@ pub fn has(s: u32, p: u8) -> bool
 pub fn with(s: u32, p: u8) -> u32
     ensures { λ r. ⌜ r ≡ withOf s p ⌝ }
 {
-    if has(s, p) {
-        s
-    } else if p < MOST {
-        s + (1 << p)
-    } else {
-        s
-    }
+    if p < MOST { s | (1 << p) } else { s }
 }
 
 // The set s without the point p.

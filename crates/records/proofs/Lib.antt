@@ -2,5 +2,4 @@
 pub mod Bytes
 pub mod Records
 pub mod Entries
-mod Decoding
 mod Putting

@@ -4,4 +4,3 @@ pub mod Limits
 pub mod Records
 pub mod Bytes
 pub mod Held
-pub mod Inside

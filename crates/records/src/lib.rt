@@ -7,8 +7,7 @@ ghost use lib.ListN.{length, take, drop, replicate};
 ghost use lib.Seq.{paste};
 ghost use Rattle.records.specs.Limits.{mostRecords, recordBytes};
 ghost use Rattle.records.specs.Records.{one, blank};
-ghost use Rattle.records.specs.Bytes.{recordIn, entriesIn, bytesOf, allBytes};
-ghost use Rattle.records.specs.Inside.{decodedOf};
+ghost use Rattle.records.specs.Bytes.{recordIn, bytesOf, allBytes};
 use bytes::copy;
 use numbers::bits;
 use numbers::signed;
@@ -46,12 +45,6 @@ pub struct Record {
     pub first: i32,
     pub second: i32,
     pub code: u32,
-}
-
-// The records of a file as they stand in it, not tested yet, and byte 3 of each; all other room zero.
-pub struct Decoded {
-    pub records: [Record; MOST_RECORDS],
-    pub reserved: [u8; MOST_RECORDS],
 }
 
 // One where `so`, to count records by.
@@ -124,26 +117,6 @@ pub fn no_records() -> [Record; MOST_RECORDS]
         code: 0,
     };
     [zeros; MOST_RECORDS]
-}
-
-// The first `count` records of a file, as they stand there.
-pub fn decode(bytes: &[u8], count: usize) -> Decoded
-    requires { ⌜ (recordBytes * count ≤ length (now bytes)) × (count ≤ mostRecords) ⌝ }
-    ensures { λ d. ⌜ d ≡ decodedOf (entriesIn count (now (bytes .entry))) ⌝ }
-{
-    let mut records = no_records();
-    let mut reserved = [0u8; MOST_RECORDS];
-    let mut i: usize = 0;
-    while i < count {
-        let at = RECORD_BYTES * i;
-        records[i] = record_in(&bytes[at..]);
-        reserved[i] = bytes[at + 3];
-        i += 1;
-    }
-    Decoded {
-        records: records,
-        reserved: reserved,
-    }
 }
 
 // The first `count` records into the front of the buffer.

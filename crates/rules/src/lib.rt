@@ -4,7 +4,6 @@
 // tested in a few steps, however many came before it. An inner room: it serves `plan`, which tests record after record, and
 // `read_one` asks that no more were seen than a plan has room for.
 ghost use mathlib.Core.Path.{_≡_};
-ghost use mathlib.Core.Bool.{not};
 ghost use Rattle.points.specs.Sets.{withOf};
 ghost use Rattle.numbers.specs.Choice.{if_then_else_};
 ghost use Rattle.records.specs.Records.{point, link, ordinary, wait};
@@ -90,26 +89,36 @@ fn with_if(so: bool, s: u32, p: u8) -> u32
     if so { with(s, p) } else { s }
 }
 
-// The number where a rule is not kept, else what comes next.
-fn unless(kept: bool, number: u32, next: u32) -> u32
-    ensures { λ n. ⌜ n ≡ (if not kept then number else next) ⌝ }
-{
-    if kept { next } else { number }
-}
-
 impl Kept {
     // The number of the first that is not kept.
     fn first_broken(self) -> u32
         ensures { λ n. ⌜ n ≡ brokenOf self ⌝ }
     {
-        let n = unless(self.bounded, OUT_OF_BOUNDS, ACCEPTED);
-        let n = unless(self.joined, NOT_JOINED, n);
-        let n = unless(self.single, TWIN, n);
-        let n = unless(self.apart, SAME_POINT, n);
-        let n = unless(self.named, NOT_NAMED, n);
-        let n = unless(self.zeros, NOT_ZERO, n);
-        let n = unless(self.room, TOO_MANY, n);
-        unless(self.order, KIND_FALLS, n)
+        if !self.order {
+            return KIND_FALLS;
+        }
+        if !self.room {
+            return TOO_MANY;
+        }
+        if !self.zeros {
+            return NOT_ZERO;
+        }
+        if !self.named {
+            return NOT_NAMED;
+        }
+        if !self.apart {
+            return SAME_POINT;
+        }
+        if !self.single {
+            return TWIN;
+        }
+        if !self.joined {
+            return NOT_JOINED;
+        }
+        if !self.bounded {
+            return OUT_OF_BOUNDS;
+        }
+        ACCEPTED
     }
 }
 
@@ -216,15 +225,23 @@ impl Seen {
         requires { ⌜ Few self ⌝ }
         ensures { λ s. ⌜ s ≡ withRecord self r ⌝ }
     {
-        let is_link = r.kind == LINK;
-        Seen {
-            kind: r.kind,
-            points: self.points + one_if(r.kind == POINT),
-            links: self.links + one_if(is_link),
-            ordinary: self.ordinary + one_if(r.kind == ORDINARY),
-            waits: self.waits + one_if(r.kind == WAIT),
-            watched: with_if(is_link, self.watched, r.b),
+        let mut next = self;
+        next.kind = r.kind;
+        if r.kind == ORDINARY {
+            next.ordinary += 1;
+            return next;
         }
+        if r.kind == WAIT {
+            next.waits += 1;
+            return next;
+        }
+        if r.kind == LINK {
+            next.links += 1;
+            next.watched = with(self.watched, r.b);
+            return next;
+        }
+        next.points += one_if(r.kind == POINT);
+        next
     }
 
     // The one-record reader: the record after those seen, tested.

@@ -1,18 +1,10 @@
 -- `plan::read` meets its contract. Assumes nothing.
 use borrow.Author.Needs.{needs}
 use borrow.Author.Tests.{eq-eqb, ne-eqb, lt-ltb, le-ltb}
-use mathlib.Core.Path.{_≡_, ap, _∙_}
-use Rattle.plan.specs.ReplyNumbers.{firstBad, readWith}
-use Rattle.plan.specs.PlanFile.{entriesIn}
-use Prim.Native.Nat.{_/_}
-use mathlib.Core.List.{[]}
-use lib.ListN.{length}
-use Rattle.plan.specs.Limits.{recordBytes}
-use Rattle.plan.specs.Inside.{entriesOf}
-use Rattle.records.specs.declared.Decoded.{Decoded}
+use native.Mathlib.Omega.{arith}
+use mathlib.Core.Path.{ap, _∙_}
+use Rattle.plan.specs.ReplyNumbers.{readWith, checkOf}
 use Rattle.plan.specs.declared.Plan.{Plan}
-use Rattle.plan.proofs.Entries.{length-entries}
-use Rattle.plan.proofs.Pairing.{decoded-plan, decoded-back}
 use Rattle.plan.proofs.read.Statement.{statement}
 use Rattle.plan.proofs.read.Tie as tie
 
@@ -40,11 +32,11 @@ returns-3 c = rw (ne-eqb _ _ (c .before .before .before .if1 .left), eq-eqb _ _ 
 decode-requires : tie.Need-decode-requires
 decode-requires c κs = search needs
 
-cast-t11 : tie.Need-cast-t11
-cast-t11 c = search needs
+check-requires : tie.Need-check-requires
+check-requires c κs = search needs
 
-test-records-requires : tie.Need-test-records-requires
-test-records-requires c κs = search needs
+first-bad-requires : tie.Need-first-bad-requires
+first-bad-requires c κs = (omega arith, omega arith, omega arith, c .check .ensures ∙ ap checkOf (c .before .decode .ensures))
 
 refuse-requires-4 : tie.Need-refuse-requires-4
 refuse-requires-4 c κs = search needs
@@ -52,23 +44,26 @@ refuse-requires-4 c κs = search needs
 returns-4 : tie.Need-returns-4
 unfolding readWith
 returns-4 c =
-    let s = c .before .before .before .before .before .before .before .before .before .before .before .args .bytes .now in
-    let n = length s / recordBytes in
-    let es = entriesIn n s in
-    let d = c .before .before .before .before .before .before .decode .ensures in
-    let f : c .before .before .before .test-records .result ≡ firstBad [] es = c .before .before .before .test-records .ensures ∙ ap (λ (d : Decoded). firstBad [] (entriesOf (record { count = n; records = d .records }) (d .reserved))) d ∙ ap (firstBad []) (decoded-back es n (length-entries n s)) in
-    rw (ne-eqb _ _ (c .before .before .before .before .before .before .before .before .before .if1 .left), eq-eqb _ _ (c .before .before .before .before .before .before .before .before .if2 .left), le-ltb _ _ (c .before .before .before .before .before .before .before .if3 .left), ← f, ne-eqb _ _ (c .before .if4 .taken)) (c .refuse4 .ensures)
+    rw (
+      ne-eqb _ _ (c .before .before .before .before .before .before .before .before .if1 .left),
+      eq-eqb _ _ (c .before .before .before .before .before .before .before .if2 .left),
+      le-ltb _ _ (c .before .before .before .before .before .before .if3 .left),
+      ← (c .before .before .before .first-bad .ensures),
+      ne-eqb _ _ (c .before .if4 .taken),
+    )
+    (c .refuse4 .ensures)
 
 returns-5 : tie.Need-returns-5
 unfolding readWith
 returns-5 c =
-    let s = c .before .before .before .before .before .before .before .before .before .before .args .bytes .now in
-    let n = length s / recordBytes in
-    let es = entriesIn n s in
-    let d = c .before .before .before .before .before .decode .ensures in
-    let f : c .before .before .test-records .result ≡ firstBad [] es = c .before .before .test-records .ensures ∙ ap (λ (d : Decoded). firstBad [] (entriesOf (record { count = n; records = d .records }) (d .reserved))) d ∙ ap (firstBad []) (decoded-back es n (length-entries n s)) in
-    rw (ne-eqb _ _ (c .before .before .before .before .before .before .before .before .if1 .left), eq-eqb _ _ (c .before .before .before .before .before .before .before .if2 .left), le-ltb _ _ (c .before .before .before .before .before .before .if3 .left), ← f, eq-eqb _ _ (c .if4 .left))
-    (ap (λ (d : Decoded). record { number = 0; place = 0; plan = record { count = n; records = d .records } }) d ∙ ap (λ (p : Plan). record { number = 0; place = 0; plan = p }) (decoded-plan es n (length-entries n s)))
+    rw (
+      ne-eqb _ _ (c .before .before .before .before .before .before .before .if1 .left),
+      eq-eqb _ _ (c .before .before .before .before .before .before .if2 .left),
+      le-ltb _ _ (c .before .before .before .before .before .if3 .left),
+      ← (c .before .before .first-bad .ensures),
+      eq-eqb _ _ (c .if4 .left),
+    )
+    (ap (λ (p : Plan). record { number = 0; place = 0; plan = p }) (c .before .before .before .before .decode .ensures))
 
 pub read-spec : {M : Type 1} → statement M
 read-spec =
@@ -81,8 +76,8 @@ read-spec =
     refuse-requires-3
     returns-3
     decode-requires
-    cast-t11
-    test-records-requires
+    check-requires
+    first-bad-requires
     refuse-requires-4
     returns-4
     returns-5)

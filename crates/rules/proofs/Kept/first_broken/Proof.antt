@@ -1,57 +1,43 @@
 -- `rules::Kept::first_broken` meets its contract. Assumes nothing.
-use borrow.Author.Needs.{needs}
 use Rattle.rules.specs.Inside.{brokenOf}
 use Rattle.rules.proofs.Kept.first_broken.Statement.{statement}
 use Rattle.rules.proofs.Kept.first_broken.Tie as tie
 
-unless-requires : tie.Need-unless-requires
-unless-requires c κs = search needs
-
-unless-requires-2 : tie.Need-unless-requires-2
-unless-requires-2 c κs = search needs
-
-unless-requires-3 : tie.Need-unless-requires-3
-unless-requires-3 c κs = search needs
-
-unless-requires-4 : tie.Need-unless-requires-4
-unless-requires-4 c κs = search needs
-
-unless-requires-5 : tie.Need-unless-requires-5
-unless-requires-5 c κs = search needs
-
-unless-requires-6 : tie.Need-unless-requires-6
-unless-requires-6 c κs = search needs
-
-unless-requires-7 : tie.Need-unless-requires-7
-unless-requires-7 c κs = search needs
-
-unless-requires-8 : tie.Need-unless-requires-8
-unless-requires-8 c κs = search needs
-
 returns : tie.Need-returns
 unfolding brokenOf
-returns c =
-    rw (
-      c .unless8 .ensures,
-      c .before .unless7 .ensures,
-      c .before .before .unless6 .ensures,
-      c .before .before .before .unless5 .ensures,
-      c .before .before .before .before .unless4 .ensures,
-      c .before .before .before .before .before .unless3 .ensures,
-      c .before .before .before .before .before .before .unless2 .ensures,
-      c .before .before .before .before .before .before .before .unless .ensures,
-    )
+returns c = rw (c .if1 .taken)
+
+returns-2 : tie.Need-returns-2
+unfolding brokenOf
+returns-2 c = rw (c .before .before .if1 .left, c .if2 .taken)
+
+returns-3 : tie.Need-returns-3
+unfolding brokenOf
+returns-3 c = rw (c .before .before .before .before .if1 .left, c .before .before .if2 .left, c .if3 .taken)
+
+returns-4 : tie.Need-returns-4
+unfolding brokenOf
+returns-4 c = rw (c .before .before .before .before .before .before .if1 .left, c .before .before .before .before .if2 .left, c .before .before .if3 .left, c .if4 .taken)
+
+returns-5 : tie.Need-returns-5
+unfolding brokenOf
+returns-5 c = rw (c .before .before .before .before .before .before .before .before .if1 .left, c .before .before .before .before .before .before .if2 .left, c .before .before .before .before .if3 .left, c .before .before .if4 .left, c .if5 .taken)
+
+returns-6 : tie.Need-returns-6
+unfolding brokenOf
+returns-6 c = rw (c .before .before .before .before .before .before .before .before .before .before .if1 .left, c .before .before .before .before .before .before .before .before .if2 .left, c .before .before .before .before .before .before .if3 .left, c .before .before .before .before .if4 .left, c .before .before .if5 .left, c .if6 .taken)
+
+returns-7 : tie.Need-returns-7
+unfolding brokenOf
+returns-7 c = rw (c .before .before .before .before .before .before .before .before .before .before .before .before .if1 .left, c .before .before .before .before .before .before .before .before .before .before .if2 .left, c .before .before .before .before .before .before .before .before .if3 .left, c .before .before .before .before .before .before .if4 .left, c .before .before .before .before .if5 .left, c .before .before .if6 .left, c .if7 .taken)
+
+returns-8 : tie.Need-returns-8
+unfolding brokenOf
+returns-8 c = rw (c .before .before .before .before .before .before .before .before .before .before .before .before .before .before .if1 .left, c .before .before .before .before .before .before .before .before .before .before .before .before .if2 .left, c .before .before .before .before .before .before .before .before .before .before .if3 .left, c .before .before .before .before .before .before .before .before .if4 .left, c .before .before .before .before .before .before .if5 .left, c .before .before .before .before .if6 .left, c .before .before .if7 .left, c .if8 .taken)
+
+returns-9 : tie.Need-returns-9
+unfolding brokenOf
+returns-9 c = rw (c .before .before .before .before .before .before .before .before .before .before .before .before .before .before .if1 .left, c .before .before .before .before .before .before .before .before .before .before .before .before .if2 .left, c .before .before .before .before .before .before .before .before .before .before .if3 .left, c .before .before .before .before .before .before .before .before .if4 .left, c .before .before .before .before .before .before .if5 .left, c .before .before .before .before .if6 .left, c .before .before .if7 .left, c .if8 .left)
 
 pub first-broken-spec : {M : Type 1} → statement M
-first-broken-spec =
-    tie.close
-    (tie.spec
-    unless-requires
-    unless-requires-2
-    unless-requires-3
-    unless-requires-4
-    unless-requires-5
-    unless-requires-6
-    unless-requires-7
-    unless-requires-8
-    returns)
+first-broken-spec = tie.close (tie.spec returns returns-2 returns-3 returns-4 returns-5 returns-6 returns-7 returns-8 returns-9)

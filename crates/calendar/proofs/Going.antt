@@ -13,8 +13,8 @@ use Rattle.records.specs.declared.Record.{Record}
 use Rattle.board.specs.declared.Board.{Board}
 use Rattle.dates.specs.declared.Stamp.{Stamp}
 use Rattle.moments.specs.Event.{eventText, eventLength}
-use Rattle.moments.specs.Inside.{Room, Laid}
-use Rattle.moments.proofs.Laying.{then, nothing-laid, long-after}
+use Rattle.buffers.specs.Inside.{Room, Laid}
+use Rattle.buffers.proofs.Laying.{then, nothing-laid, long-after}
 use Rattle.moments.proofs.Lengths.{event-long}
 use Rattle.calendar.specs.Calendars.{pondCode, momentOf, eventOf, eventsOf, heading, ending, calendarText, eventsLength, textLength}
 use Rattle.calendar.proofs.Lengths.{not-long, length-more, no-shorter, few-points, code-at, events-long}

@@ -16,7 +16,7 @@ use Rattle.plan.specs.declared.Plan.{Plan}
 use Rattle.verdict.proofs.Broken.{ended-accepted}
 use Rattle.moments.specs.Event.{uidLine}
 use Rattle.moments.proofs.Lengths.{summary-long}
-use Rattle.moments.proofs.Digits.{few-below, toHyphen, read-back}
+use Rattle.buffers.proofs.Digits.{few-below, toHyphen, read-back}
 use Rattle.calendar.specs.Calendars.{pondCode, eventsLength, textLength, mostText, answer}
 use Rattle.calendar.specs.Promises.{ShortLines, DifferentUids, LengthOfText, Enough, ReachesMost, DifferentStarts, PointsFirst, LongestLine}
 use Rattle.calendar.proofs.Lengths.{text-long, few-points, text-parts}

@@ -13,7 +13,7 @@ use Rattle.board.specs.declared.Board.{Board}
 use Rattle.verdict.specs.Verdicts.{endedOf}
 use Rattle.dates.specs.Gregorian.{isOrigin}
 use Rattle.dates.specs.declared.Stamp.{Stamp}
-use Rattle.moments.specs.Inside.{Laid}
+use Rattle.buffers.specs.Inside.{Laid}
 use Rattle.calendar.specs.Calendars.{calendarText, answer, calendarOf, writtenOf}
 
 module _ (p : Plan) (b : Board) (origin : Stamp) (out : List ℕ) where

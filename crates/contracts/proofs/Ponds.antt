@@ -9,7 +9,7 @@ use Rattle.plan.specs.ReplyNumbers.{readOf}
 use Rattle.plan.specs.declared.Refusal.{Refusal}
 use Rattle.lighter.specs.declared.Lighter.{Lighter}
 use Rattle.lighter.proofs.Theorems.{one-lighter}
-use Rattle.hulls.specs.Answers.{answerOf}
+use Rattle.halves.specs.Answers.{answerOf}
 use Rattle.hulls.specs.Rooms.{linksIn, linksRoom, replyRoom}
 use Rattle.filed.specs.Files.{filedAnswer, fileLeft, planIn, droppedLeft, LighterWritten}
 use Rattle.filed.specs.Files.LighterWritten.{unread, made}

@@ -12,7 +12,7 @@ use Rattle.plan.specs.declared.Refusal.{Refusal}
 use Rattle.board.specs.declared.Board.{Board}
 use Rattle.lighter.specs.Lighter.{LighterOf}
 use Rattle.lighter.specs.declared.Lighter.{Lighter}
-use Rattle.hulls.specs.Answers.{answerOf, answerWith}
+use Rattle.halves.specs.Answers.{answerOf, answerWith}
 use Rattle.filed.specs.Files.{ofFile, filedOf, fileLeft, filedAnswer, planIn, droppedLeft, LighterWritten}
 use Rattle.filed.specs.Files.LighterWritten.{unread, made}
 

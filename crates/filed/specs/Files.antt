@@ -29,7 +29,7 @@ use Rattle.dates.specs.declared.Stamp.{Stamp}
 use Rattle.calendar.specs.Calendars.{calendarOf}
 use Rattle.calendar.specs.Calendars as calendars
 use Rattle.calendar.specs.declared.Calendar.{Calendar}
-use Rattle.hulls.specs.Answers.{answerOf, answerWith, halfOf}
+use Rattle.halves.specs.Answers.{answerOf, answerWith, halfOf}
 use Rattle.hulls.specs.Rooms.{boardIn}
 
 -- what f says of the plan, or what g makes of the reader's number and record

@@ -18,7 +18,7 @@ use Rattle.plan.specs.declared.Plan.{Plan}
 use Rattle.history.specs.History.{minuteIn, each, largest}
 use Rattle.history.specs.Inside.{asked}
 use Rattle.history.specs.declared.each.Ask.{Ask}
-use Rattle.history.specs.declared.each.Ask.the-variants.{InBounds, NotRunning, NotLate, Earlier}
+use Rattle.history.specs.declared.each.Ask.the-variants.{InBounds, Earlier}
 
 -- the points from i up to n
 module _ (test : ℕ → Bool) (n i : ℕ) where
@@ -71,8 +71,6 @@ module _ (so : Record → Bool) (p : Plan) (n : ℕ) where
 -- what is asked of every record is so of one that is no link
 pub so-of-others : (clock done : ℕ) (minutes : List ℕ) (ask : Ask) (r : Record) → is link r ≡ false → asked clock done minutes ask r ≡ true
 so-of-others clock done minutes InBounds r e = rw e
-so-of-others clock done minutes NotRunning r e = rw e
-so-of-others clock done minutes (NotLate t ended) r e = rw e
 so-of-others clock done minutes Earlier r e = rw e
 
 -- none of the records is so

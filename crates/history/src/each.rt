@@ -4,7 +4,7 @@ ghost use mathlib.Core.Path.{_≡_};
 ghost use lib.ListN.{length};
 ghost use Rattle.plan.specs.Limits.{mostPoints};
 ghost use Rattle.plan.specs.APlan.{recordsOf};
-ghost use Rattle.history.specs.History.{minuteIn, runs, inBoundsFrom, notLateFrom, earlierFrom, each};
+ghost use Rattle.history.specs.History.{minuteIn, inBoundsFrom, earlierFrom, each};
 ghost use Rattle.history.specs.Inside.{askedFrom, asked};
 use crate::ROOM;
 use crate::used;
@@ -16,21 +16,11 @@ use plan::split;
 use points::MOST;
 use points::has;
 
-// A done link is in its bounds and a running one has not run out; no link is running; no running link but those of a set
-// has run out before a minute; a done link's start is in an earlier event than its end, where the numbers of the events stand
-// in place of the minutes.
+// A done link is in its bounds and a running one has not run out; a done link's start is in an earlier event than its end,
+// where the numbers of the events stand in place of the minutes.
 pub enum Ask {
     InBounds,
-    NotRunning,
-    NotLate(u32, u32),
     Earlier,
-}
-
-// A link is running: A done, C not.
-fn is_running(done: u32, r: Record) -> bool
-    ensures { λ t. ⌜ t ≡ runs done r ⌝ }
-{
-    (r.kind == LINK) & (has(done, r.a) & !has(done, r.b))
 }
 
 // Where a link's C is done, A is done and the duration is in bounds; a running link has A + y ≥ clock.
@@ -49,14 +39,6 @@ fn in_bounds(clock: u32, done: u32, a: u32, c: u32, r: Record) -> bool
     let to = wide(c);
     (!ended | (started & ((least <= to) & (to <= most))))
         & (!(started & !ended) | (wide(clock) <= most))
-}
-
-// 27 is not given for one record.
-fn not_late(done: u32, t: u32, set: u32, a: u32, r: Record) -> bool
-    ensures { λ x. ⌜ x ≡ notLateFrom done t set a r ⌝ }
-{
-    let y = split(r.second);
-    !is_running(done, r) | (has(set, r.b) | (wide(t) <= wide(a) + wide(y.up)))
 }
 
 // Where a link's A and C are both done, A is in an earlier event than C.
@@ -84,8 +66,6 @@ fn is_so(clock: u32, done: u32, a: u32, c: u32, ask: Ask, r: Record) -> bool
 {
     match ask {
         Ask::InBounds => in_bounds(clock, done, a, c, r),
-        Ask::NotRunning => !is_running(done, r),
-        Ask::NotLate(t, set) => not_late(done, t, set, a, r),
         Ask::Earlier => earlier(done, a, c, r),
     }
 }

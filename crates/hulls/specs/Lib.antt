@@ -1,4 +1,2 @@
--- What crosses to a program in another language: answers, and rooms of numbers. No proofs are here.
-pub mod Answers
-pub mod Told
+-- What crosses to a program in another language: rooms of numbers. No proofs are here.
 pub mod Rooms

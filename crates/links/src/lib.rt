@@ -20,7 +20,6 @@ use points::with;
 use records::one_if;
 pub use sets::all_in_time;
 pub use sets::all_running;
-pub use sets::set_number;
 
 // The reply numbers 24 to 27.
 pub const BEFORE_CLOCK: u32 = 24;

@@ -1,21 +1,13 @@
-// An event's minute and its set of watched points: the numbers 24 to 27 in order, from a plan's links and from what has
+// An event's minute and its set of watched points: what the numbers 25 and 26 ask, from a plan's links and from what has
 // happened as plain values.
 ghost use mathlib.Core.Path.{_≡_};
 ghost use Rattle.points.specs.Sets.{membersOf, every};
-ghost use Rattle.plan.specs.APlan.{recordsOf};
-ghost use Rattle.links.specs.Inside.{LinksOf, runsAt, timely, timelyAt, setNumber};
-use crate::BEFORE_CLOCK;
+ghost use Rattle.links.specs.Inside.{runsAt, timely, timelyAt};
 use crate::End;
 use crate::Links;
-use crate::NOT_IN_TIME;
-use crate::NOT_RUNNING;
-use crate::RUN_OUT;
-use history::Ask;
 use history::ROOM;
-use history::every_record;
 use history::minute_at;
 use history::wide;
-use plan::Plan;
 use points::first;
 use points::has;
 use points::without;
@@ -59,33 +51,4 @@ pub fn all_in_time(minutes: [u32; ROOM], links: Links, t: u32, set: u32) -> bool
         rest = without(rest, p);
     }
     true
-}
-
-// 24 to 27 in order for a set of points at the minute t, or else `next`.
-pub fn set_number(
-    plan: Plan,
-    links: Links,
-    clock: u32,
-    done: u32,
-    minutes: [u32; ROOM],
-    t: u32,
-    set: u32,
-    next: u32,
-) -> u32
-    requires { ⌜ LinksOf (recordsOf plan) links ⌝ }
-    ensures { λ n. ⌜ n ≡ setNumber (recordsOf plan) clock done minutes t set next ⌝ }
-{
-    if t < clock {
-        return BEFORE_CLOCK;
-    }
-    if !all_running(done, links, set) {
-        return NOT_RUNNING;
-    }
-    if !all_in_time(minutes, links, t, set) {
-        return NOT_IN_TIME;
-    }
-    if !every_record(plan, clock, done, minutes, Ask::NotLate(t, set)) {
-        return RUN_OUT;
-    }
-    next
 }

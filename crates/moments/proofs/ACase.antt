@@ -1,4 +1,4 @@
--- A worked event, computed by the checker: a page of its own, since it is quick, and `Laying` builds on it, so that a wrong
+-- A worked event, computed by the checker: a page of its own, since it is quick, and `Lengths` builds on it, so that a wrong
 -- line is refused here first. Assumes nothing.
 use mathlib.Core.Path.{_≡_, refl}
 use Rattle.values.specs.Ascii.{ascii}

@@ -8,6 +8,7 @@ use Rattle.values.specs.Ascii.{ascii}
 use Rattle.lines.specs.Text.{decimal}
 use Rattle.moments.specs.Event.{line, uidLine, stampLine, startLine, summaryLine, eventText, eventLength}
 use Rattle.moments.specs.Inside.{momentBytes}
+use Rattle.moments.proofs.ACase.{an-event}
 
 pub line-long : (t : List ℕ) → length (line t) ≡ length t + 2
 line-long t = length-append t (13 ∷ 10 ∷ [])

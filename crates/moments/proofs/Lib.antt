@@ -1,5 +1,3 @@
 -- The proofs of the lines of an event.
 mod ACase
-pub mod Laying
-pub mod Digits
 pub mod Lengths

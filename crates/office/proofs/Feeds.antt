@@ -22,8 +22,8 @@ use Rattle.fields.specs.declared.Walk.{Walk}
 use Rattle.office.specs.Inside.{lineNumber, cell, readableIn, recordIn, lineBy}
 use Rattle.office.specs.Feeding.{stopped, counted, cellsWith, stepped, fedByte, fedOf}
 use Rattle.office.specs.declared.Feeding.{Feeding}
-use Rattle.office.specs.declared.Line.{Line}
-use Rattle.office.specs.declared.Line.the-variants.{Good, Bad}
+use Rattle.cells.specs.declared.Line.{Line}
+use Rattle.cells.specs.declared.Line.the-variants.{Good, Bad}
 
 -- nothing is bad so far
 abbrev pub open′ : ℕ → List Record → ℕ → List Seen → Spot → Feeding

@@ -17,8 +17,8 @@ use Rattle.office.specs.Sheets.{refused}
 use Rattle.office.specs.Inside.{lineNumber, lineBy, judged}
 use Rattle.office.specs.Feeding.{lineBegins, stopped, counted, cellsWith, lined, lastOf, answered, finishedOf}
 use Rattle.office.specs.declared.Feeding.{Feeding}
-use Rattle.office.specs.declared.Line.{Line}
-use Rattle.office.specs.declared.Line.the-variants.{Good, Bad}
+use Rattle.cells.specs.declared.Line.{Line}
+use Rattle.cells.specs.declared.Line.the-variants.{Good, Bad}
 use Rattle.office.specs.declared.Imported.{Imported}
 
 module _ (n : ℕ) (rs : List Record) (k : ℕ) (is : k ≡ min n (mostRecords + 1)) (x : Refusal) where

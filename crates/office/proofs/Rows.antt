@@ -17,7 +17,7 @@ use Rattle.fields.specs.Quoting.{columns}
 use Rattle.office.specs.Sheets.{bad, good, readable, recordOf, rowOf, isKind, isPoint, isNumber, isCode}
 use Rattle.office.specs.Inside.{asLine, readableIn, recordIn, lineBy}
 use Rattle.office.specs.Feeding.{cellsWith}
-use Rattle.office.specs.declared.Line.the-variants.{Good, Bad}
+use Rattle.cells.specs.declared.Line.the-variants.{Good, Bad}
 use Rattle.office.proofs.Filling.{fill}
 
 -- what is kept of a field

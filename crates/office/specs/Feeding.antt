@@ -19,8 +19,8 @@ use Rattle.office.specs.Sheets.{refused}
 use Rattle.office.specs.Inside.{lineBy, judged}
 use Rattle.office.specs.declared.Feeding.{Feeding}
 use Rattle.office.specs.declared.Imported.{Imported}
-use Rattle.office.specs.declared.Line.{Line}
-use Rattle.office.specs.declared.Line.the-variants.{Good, Bad}
+use Rattle.cells.specs.declared.Line.{Line}
+use Rattle.cells.specs.declared.Line.the-variants.{Good, Bad}
 
 -- where a line begins, behind so many others
 abbrev pub lineBegins : ℕ → List Record → Feeding

@@ -9,8 +9,14 @@ ghost use lib.ListN.{set};
 ghost use Rattle.plan.specs.APlan.{planOf};
 ghost use Rattle.plan.specs.ReplyNumbers.{refusal};
 ghost use Rattle.office.specs.Sheets.{importOf, refused};
-ghost use Rattle.office.specs.Inside.{lineNumber, readableIn, recordIn, lineBy, judged};
+ghost use Rattle.office.specs.Inside.{lineNumber, lineBy, judged};
 ghost use Rattle.office.specs.Feeding.{begun, lineBegins, stopped, cellsWith, counted, fedOf, lastOf, finishedOf};
+pub use cells::COLUMN_COUNT;
+use cells::COLUMNS;
+use cells::Line;
+pub use cells::NO_CODE;
+pub use cells::UNREADABLE;
+use cells::line_by;
 use fields::Spot;
 use fields::Step;
 use fields::walk_from;
@@ -22,19 +28,9 @@ use plan::check;
 use records::no_records;
 use values::Seen;
 
-// A kind word, two points, two numbers, a pond code.
-const COLUMNS: usize = 6;
-
-const COMMAS: usize = 5;
-
-// The reply numbers of a line; 0 for what is not refused, and those of the plan that the lines make, are those of `plan`.
+// The reply number of a line whose columns cannot be told; 41 to 43 are those of `cells`, and 0 for what is not refused, and the numbers of
+// the plan that the lines make, those of `plan`.
 pub const BROKEN_QUOTING: u32 = 40;
-
-pub const COLUMN_COUNT: u32 = 41;
-
-pub const UNREADABLE: u32 = 42;
-
-pub const NO_CODE: u32 = 43;
 
 // What importing answers: number 0 and the plan, or a number, the first bad line and a plan without records.
 pub struct Imported {
@@ -52,61 +48,6 @@ pub struct Feeding {
     pub commas: usize,
     pub cells: [Seen; COLUMNS],
     pub spot: Spot,
-}
-
-// A line's record, or the number that it is refused with.
-enum Line {
-    Good(Record),
-    Bad(u32),
-}
-
-// A word, two points and two numbers in the first five columns.
-fn is_readable(cells: [Seen; COLUMNS]) -> bool
-    ensures { λ t. ⌜ t ≡ readableIn cells ⌝ }
-{
-    let word = cells[0];
-    let a = cells[1];
-    let b = cells[2];
-    let first = cells[3];
-    let second = cells[4];
-    (word.kind() != 0) & ((a.is_point() & b.is_point()) & (first.is_number() & second.is_number()))
-}
-
-// The record that six columns make.
-fn record_by(cells: [Seen; COLUMNS]) -> Record
-    ensures { λ r. ⌜ r ≡ recordIn cells ⌝ }
-{
-    let word = cells[0];
-    let a = cells[1];
-    let b = cells[2];
-    let first = cells[3];
-    let second = cells[4];
-    let pond = cells[5];
-    Record {
-        kind: word.kind(),
-        a: a.point(),
-        b: b.point(),
-        first: first.number(),
-        second: second.number(),
-        code: pond.code(),
-    }
-}
-
-// A line of so many commas.
-fn line_by(commas: usize, cells: [Seen; COLUMNS]) -> Line
-    ensures { λ r. ⌜ r ≡ lineBy commas cells ⌝ }
-{
-    if commas != COMMAS {
-        return Line::Bad(COLUMN_COUNT);
-    }
-    if !is_readable(cells) {
-        return Line::Bad(UNREADABLE);
-    }
-    let pond = cells[5];
-    if !pond.is_code() {
-        return Line::Bad(NO_CODE);
-    }
-    Line::Good(record_by(cells))
 }
 
 // A line whose last column is this one, behind so many commas.

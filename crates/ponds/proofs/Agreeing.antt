@@ -25,7 +25,7 @@ use Rattle.replies.specs.Replies.{replyOf}
 use Rattle.rooms.specs.Filling.{BeginsWith}
 use Rattle.engine.specs.Agreement.{Agrees, answersOf}
 use Rattle.engine.proofs.Agreeing.{begins-agrees, board-agrees, reply-agrees, take-agrees}
-use Rattle.hulls.specs.Answers.{answerOf}
+use Rattle.halves.specs.Answers.{answerOf}
 use Rattle.hulls.specs.Rooms.{linksIn, boardIn, replyRoom}
 use Rattle.hulls.proofs.Back.{links-back, board-there}
 use Rattle.ponds.specs.Days.{FilledFrom, BeginsFrom, TakesFrom, RepliesFrom, TakenAll, answersIn}

@@ -13,7 +13,7 @@ use Rattle.rooms.specs.Filling.{BeginsWith}
 use Rattle.rooms.specs.declared.Started.{Started}
 use Rattle.engine.specs.Takes.{TakesWith, RepliesWith}
 use Rattle.calendar.specs.declared.Calendar.{Calendar}
-use Rattle.hulls.specs.Answers.{answerOf, answerWith, halfOf}
+use Rattle.halves.specs.Answers.{answerOf, answerWith, halfOf}
 use Rattle.hulls.specs.Rooms.{linksIn, linksRoom, replyRoom}
 use Rattle.filed.specs.Files.{calendarAnswer}
 use Rattle.ponds.specs.Days.{FilledFrom, BeginsFrom, TakesFrom, RepliesFrom}

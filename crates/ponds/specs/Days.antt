@@ -14,7 +14,7 @@ use Rattle.links.specs.declared.Links.{Links}
 use Rattle.replies.specs.declared.Reply.{Reply}
 use Rattle.rooms.specs.Filling.{Filled}
 use Rattle.engine.specs.Takes.{TakesWith, RepliesWith}
-use Rattle.hulls.specs.Answers.{answerOf}
+use Rattle.halves.specs.Answers.{answerOf}
 use Rattle.hulls.specs.Rooms.{linksIn, linksRoom, replyRoom}
 
 -- the rooms of the plan of an accepted file s at the fresh board

@@ -1,14 +1,14 @@
 // A plan file checked and tested, its worst finishing minute, and the day behind it.
 ghost use mathlib.Core.Path.{_≡_};
-ghost use Rattle.hulls.specs.Told.{testAnswer, testRoom, worstAnswer, worstRoom};
+ghost use Rattle.told.specs.Told.{testAnswer, testRoom, worstAnswer, worstRoom};
 ghost use Rattle.filed.specs.Files.{checkAnswer, testFile, worstFile, dayFile, dayLeft, dayAnswer};
 use filed::day_file;
 use filed::test_file;
 use filed::worst_file;
-use hulls::answer_with;
-use hulls::tell_test;
-use hulls::tell_worst;
+use halves::answer_with;
 use plan::read;
+use told::tell_test;
+use told::tell_worst;
 
 // A plan file's own refusal with its record, or 0 with how many records there are.
 #[no_mangle]

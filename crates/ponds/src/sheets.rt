@@ -1,14 +1,14 @@
 // What is said of a day at its end, by the board that an engine's room holds: the verdict, and the calendar.
 ghost use mathlib.Core.Path.{_≡_};
-ghost use Rattle.hulls.specs.Told.{verdictAnswer, verdictRoom};
+ghost use Rattle.told.specs.Told.{verdictAnswer, verdictRoom};
 ghost use Rattle.filed.specs.Files.{verdictFile, stampOf, calendarFile, calendarLeft, calendarAnswer};
 use dates::Stamp;
 use engine::KEPT;
 use filed::calendar_file;
 use filed::verdict_file;
-use hulls::answer_with;
-use hulls::half;
-use hulls::tell_verdict;
+use halves::answer_with;
+use halves::half;
+use told::tell_verdict;
 
 // The verdict: the plan's own refusal with its record, 20, 31, or 0 and in the room 0 for kept, or 1 and the broken record.
 #[no_mangle]

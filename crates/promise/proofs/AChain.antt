@@ -1,5 +1,5 @@
 -- Document 02, §8, computed: two trucks in a chain, of which the second starts when the first arrives, and a ring of three links.
--- `TheTrucks` says what follows from these answers. Assumes nothing.
+-- `TheTrucks` of `instances` says what follows from these answers. Assumes nothing.
 use mathlib.Core.Path.{_≡_, refl}
 use mathlib.Core.List.{List, [], _∷_, _++_, map}
 use Prim.Native.Nat.{ℕ}

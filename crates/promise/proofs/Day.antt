@@ -1,5 +1,5 @@
 -- The worked day of document 01, case 13, as a sheet: the events that its minutes give are, computed, those of the day, and
--- each is taken. `Haul` proves that it is a good sheet. Assumes nothing.
+-- each is taken. `Haul` of `instances` proves that it is a good sheet. Assumes nothing.
 use mathlib.Core.Path.{_≡_, refl}
 use mathlib.Core.List.{[], _∷_, _++_, map}
 use Prim.Native.Nat.{ℕ}

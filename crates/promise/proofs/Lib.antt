@@ -2,8 +2,8 @@
 -- `TestYes`; `yes-ends` of `Ends`, how the programs end; `executor` of `Executor`; `happening-accepted`, `happened-promised`
 -- and `finishes` of `Play`; `at-durations` of `Lasting`; `some-players` of `Players`; `exactly-the-good` of `LetThrough`, with
 -- `good-given` of `GoodSheets` and `through-good`; `untied-forbidden` of `Untied`; `event-starts` and `event-chained` of `Chains`;
--- `ring-reported` of `Rings`; `which-call` and `refused-changes-none` of `Calls`; and as instances the haul of document 01, in `Haul` and `Day`, and two trucks in a chain with a ring,
--- in `TheTrucks` and `AChain`. The others lead up to these.
+-- `ring-reported` of `Rings`; `which-call` and `refused-changes-none` of `Calls`; and computed, the day of the haul of document 01, in `Day`, and two trucks in a chain with a
+-- ring, in `AChain`, of which `instances` has the theorems. The others lead up to these.
 pub mod AChain
 pub mod Day
 pub mod Nets
@@ -25,10 +25,8 @@ pub mod Keeping
 pub mod TestYes
 pub mod DemandThree
 pub mod Answers
-pub mod Haul
 pub mod Ends
 pub mod Untied
 pub mod Chains
 pub mod Calls
 pub mod Rings
-pub mod TheTrucks

@@ -2,5 +2,4 @@
 mod Removing
 pub mod Opening
 mod Above
-mod Numbering
 mod Pointing

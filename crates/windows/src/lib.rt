@@ -10,8 +10,6 @@ ghost use Rattle.windows.specs.Inside.{WindowsOf, Minus, leastAt};
 mod asks;
 
 pub use asks::all_above;
-pub use asks::event_number;
-pub use asks::is_stuck;
 pub use asks::latest_of;
 pub use asks::point_number;
 pub use asks::record_beside;

@@ -1,5 +1,5 @@
--- Days and worst finishing minutes, computed by the rules: of the haul of document 01, and of a yard with two points due at one
--- minute. Assumes nothing.
+-- Days, computed by the rules, of the haul of document 01, and of a yard with two points due at one minute; and the yard's worst
+-- finishing minute. The haul's, of 31 projections, is in `HaulWorst` of `instances`. Assumes nothing.
 use mathlib.Core.Path.{_≡_, refl}
 use mathlib.Core.List.{List, [], _∷_}
 use lib.Count.{ones}
@@ -48,11 +48,6 @@ unfolding eventsFrom spans spread projections many
 no-day = refl
 
 -- ---- worst minutes
-
--- the crew at 0, the truck at 10, and then the longest drive, of 50 minutes: all is done at 60, in the last of 31 projections
-haul-worst : worstOf haul ≡ At 60 30
-unfolding worstOf refusedOf worstFrom runFrom leastOf setOf firstOr ones takeOf eventNumber boardAfter markAll sound numbered each largest stateOf greatest least leastHigh member membersOf withOf belowOf subsetOf from every passing howMany some firstThat placeFrom checkWith firstBadWith numberForWith lastKind testOf testFrom judgeOf firstFrom passes atOnce listed arcs spans spread projections many
-haul-worst = refl
 
 -- both projections are done at 9, and the first counts
 yard-worst : worstOf yard ≡ At 9 0

@@ -2,7 +2,7 @@
 use borrow.Author.Needs.{needs}
 use native.Mathlib.Omega.{arith}
 use Rattle.plan.specs.APlan.{recordsOf}
-use Rattle.moments.proofs.Laying.{long-after}
+use Rattle.buffers.proofs.Laying.{long-after}
 use Rattle.calendar.proofs.Lengths.{text-parts, events-long}
 use Rattle.calendar.proofs.Going.{all-laid}
 use Rattle.calendar.proofs.put_calendar.Statement.{statement}

@@ -4,7 +4,7 @@ use native.Mathlib.Omega.{arith}
 use lib.ListN.{length-map}
 use mathlib.Core.Path.{refl}
 use Prim.Native.Nat.{_-_}
-use Rattle.moments.proofs.Laying.{long-after}
+use Rattle.buffers.proofs.Laying.{long-after}
 use Rattle.calendar.proofs.Going.{few, in-room, Put, put-none, put-room, put-more, put-all}
 use Rattle.calendar.proofs.put_events.Statement.{statement}
 use Rattle.calendar.proofs.put_events.Tie as tie

@@ -3,7 +3,7 @@ use borrow.Author.Needs.{needs}
 use native.Mathlib.Omega.{arith}
 use Rattle.values.specs.Ascii.{ascii}
 use Rattle.moments.specs.Event.{eventText}
-use Rattle.moments.proofs.Laying.{then, long-after}
+use Rattle.buffers.proofs.Laying.{then, long-after}
 use Rattle.moments.proofs.Lengths.{event-parts, uid-long, moment-long, summary-long}
 use Rattle.moments.proofs.put_event.Statement.{statement}
 use Rattle.moments.proofs.put_event.Tie as tie

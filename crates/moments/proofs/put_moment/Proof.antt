@@ -1,7 +1,7 @@
 -- `moments::put_moment` meets its contract. Assumes nothing.
 use borrow.Author.Needs.{needs}
 use native.Mathlib.Omega.{arith}
-use Rattle.moments.proofs.Laying.{then, long-after}
+use Rattle.buffers.proofs.Laying.{then, long-after}
 use Rattle.moments.proofs.Lengths.{moment-long}
 use Rattle.moments.proofs.put_moment.Statement.{statement}
 use Rattle.moments.proofs.put_moment.Tie as tie

@@ -1,7 +1,5 @@
 -- `history::each::is_so` meets its contract. Assumes nothing.
 use borrow.Author.Needs.{needs}
-use mathlib.Core.Path.{ap}
-use mathlib.Core.Bool.{not}
 use Rattle.history.proofs.each.is_so.Statement.{statement}
 use Rattle.history.proofs.each.is_so.Tie as tie
 
@@ -14,18 +12,6 @@ in-bounds-requires c κs = search needs
 enum-told-2 : tie.Need-enum-told-2
 enum-told-2 c = search needs
 
-is-running-requires : tie.Need-is-running-requires
-is-running-requires c κs = search needs
-
-enum-known-ask : tie.Need-enum-known-ask
-enum-known-ask c = search needs
-
-not-late-requires : tie.Need-not-late-requires
-not-late-requires c κs = search needs
-
-enum-told-3 : tie.Need-enum-told-3
-enum-told-3 c = search needs
-
 earlier-requires : tie.Need-earlier-requires
 earlier-requires c κs = search needs
 
@@ -33,27 +19,7 @@ returns : tie.Need-returns
 returns c = rw (c .before .enum-told .given .1) (c .in-bounds .ensures)
 
 returns-2 : tie.Need-returns-2
-returns-2 c = rw (c .before .enum-told2 .given .1) (ap not (c .is-running .ensures))
-
-returns-3 : tie.Need-returns-3
-returns-3 c = rw (c .before .before .ask .given .1) (c .not-late .ensures)
-
-returns-4 : tie.Need-returns-4
-returns-4 c = rw (c .before .enum-told3 .given .1) (c .earlier .ensures)
+returns-2 c = rw (c .before .enum-told2 .given .1) (c .earlier .ensures)
 
 pub is-so-spec : {M : Type 1} → statement M
-is-so-spec =
-    tie.close
-    (tie.spec
-    enum-told
-    in-bounds-requires
-    enum-told-2
-    is-running-requires
-    enum-known-ask
-    not-late-requires
-    enum-told-3
-    earlier-requires
-    returns
-    returns-2
-    returns-3
-    returns-4)
+is-so-spec = tie.close (tie.spec enum-told in-bounds-requires enum-told-2 earlier-requires returns returns-2)

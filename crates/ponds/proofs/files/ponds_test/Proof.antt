@@ -2,7 +2,7 @@
 use borrow.Author.Needs.{needs}
 use mathlib.Core.Path.{ap, _∙_}
 use Rattle.vee.specs.declared.Answer.{Answer}
-use Rattle.hulls.specs.Told.{testAnswer, testRoom}
+use Rattle.told.specs.Told.{testAnswer, testRoom}
 use Rattle.ponds.proofs.files.ponds_test.Statement.{statement}
 use Rattle.ponds.proofs.files.ponds_test.Tie as tie
 

@@ -2,7 +2,7 @@
 use borrow.Author.Needs.{needs}
 use mathlib.Core.Path.{ap, _∙_}
 use Rattle.worst.specs.declared.Worst.{Worst}
-use Rattle.hulls.specs.Told.{worstAnswer, worstRoom}
+use Rattle.told.specs.Told.{worstAnswer, worstRoom}
 use Rattle.ponds.proofs.files.ponds_worst.Statement.{statement}
 use Rattle.ponds.proofs.files.ponds_worst.Tie as tie
 

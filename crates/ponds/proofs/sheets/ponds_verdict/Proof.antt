@@ -2,7 +2,7 @@
 use borrow.Author.Needs.{needs}
 use mathlib.Core.Path.{ap, _∙_}
 use Rattle.verdict.specs.declared.Verdict.{Verdict}
-use Rattle.hulls.specs.Told.{verdictAnswer, verdictRoom}
+use Rattle.told.specs.Told.{verdictAnswer, verdictRoom}
 use Rattle.ponds.proofs.sheets.ponds_verdict.Statement.{statement}
 use Rattle.ponds.proofs.sheets.ponds_verdict.Tie as tie
 

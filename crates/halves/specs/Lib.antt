@@ -1,0 +1,2 @@
+-- An answer as one number. No proofs are here.
+pub mod Answers

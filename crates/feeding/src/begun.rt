@@ -2,6 +2,7 @@
 ghost use mathlib.Core.Path.{_≡_};
 ghost use Prim.Native.Nat.{_+_, _*_, _≤_};
 ghost use lib.ListN.{length};
+ghost use Rattle.plan.specs.Limits.{mostPoints};
 ghost use Rattle.lines.specs.Text.{room};
 ghost use Rattle.saying.specs.Makes.{mostMade};
 ghost use Rattle.feeding.specs.Parts.{FirstPut, PlanBegun, TailPut, LastPut};
@@ -37,7 +38,8 @@ fn put_first(
     lines: &mut [u8],
 ) -> usize
     requires { ⌜ mostMade ≤ length (now lines) ⌝ }
-    ensures { λ r. ⌜ FirstPut full plan links ponds (now (rows .entry)) (now (out .entry)) (now (kept .entry)) (now (lines .entry)) (now (lines .exit)) r ⌝ }
+    ensures made { λ r. ⌜ FirstPut full plan links ponds (now (rows .entry)) (now (out .entry)) (now (kept .entry)) (now (lines .entry)) (now (lines .exit)) r ⌝ }
+    ensures few { λ r. ⌜ r ≤ room * (mostPoints + 2) ⌝ }
 {
     if !full {
         return 0;
@@ -59,7 +61,8 @@ pub fn begin_plan(
     lines: &mut [u8],
 ) -> Begun
     requires { ⌜ mostMade ≤ length (now lines) ⌝ }
-    ensures { λ r. ⌜ PlanBegun full part (now (front .entry)) (now (rows .entry)) (now (into .entry)) (now (out .entry)) (now (ends .entry)) (now (kept .entry)) (now (lines .entry)) (now (rows .exit)) (now (into .exit)) (now (out .exit)) (now (ends .exit)) (now (kept .exit)) (now (lines .exit)) r ⌝ }
+    ensures begun { λ r. ⌜ PlanBegun full part (now (front .entry)) (now (rows .entry)) (now (into .entry)) (now (out .entry)) (now (ends .entry)) (now (kept .entry)) (now (lines .entry)) (now (rows .exit)) (now (into .exit)) (now (out .exit)) (now (ends .exit)) (now (kept .exit)) (now (lines .exit)) r ⌝ }
+    ensures few { λ r. ⌜ r .end ≤ room * (mostPoints + 2) ⌝ }
 {
     let reading = read_front(part, front);
     let plan = reading.plan;

@@ -1,4 +1,5 @@
 -- `feeding::begin_plan` meets its contract. Assumes nothing.
+use native.Mathlib.Omega.{arith}
 use Rattle.feeding.proofs.Starting.{begun-refused, begun-read}
 use borrow.Author.Needs.{needs}
 use Rattle.feeding.proofs.begun.begin_plan.Statement.{statement}
@@ -23,7 +24,7 @@ same-length : tie.Need-same-length
 same-length c = search needs
 
 returns : tie.Need-returns
-returns c = begun-refused _ _ _ _ _ _ _ _ _ _ _ _ _ _ _ _ (c .before .before .before .before .before .before .before .before .before .before .before .before .before .before .before .before .read-front .ensures) _ (c .before .before .before .before .before .before .before .before .before .begin .ensures) _ (c .before .before .before .before .before .before .before .ponds-of .ensures) (c .before .before .before .before .before .if1 .taken) _ (c .before .before .before .plan-line .ensures) (c .before .before .put-line .ensures .0)
+returns c = (begun-refused _ _ _ _ _ _ _ _ _ _ _ _ _ _ _ _ (c .before .before .before .before .before .before .before .before .before .before .before .before .before .before .before .before .read-front .ensures) _ (c .before .before .before .before .before .before .before .before .before .begin .ensures) _ (c .before .before .before .before .before .before .before .ponds-of .ensures) (c .before .before .before .before .before .if1 .taken) _ (c .before .before .before .plan-line .ensures) (c .before .before .put-line .ensures .0), omega (arith, c .before .before .put-line .ensures .1))
 
 put-first-requires : tie.Need-put-first-requires
 put-first-requires c κs = search needs
@@ -32,7 +33,7 @@ same-length-2 : tie.Need-same-length-2
 same-length-2 c = search needs
 
 returns-2 : tie.Need-returns-2
-returns-2 c = begun-read _ _ _ _ _ _ _ _ _ _ _ _ _ _ _ _ (c .before .before .before .before .before .before .before .before .before .before .before .before .before .before .before .before .before .before .read-front .ensures) _ (c .before .before .before .before .before .before .before .before .before .before .before .begin .ensures) _ (c .before .before .before .before .before .before .before .before .before .ponds-of .ensures) (c .before .before .before .before .before .before .before .if1 .left) (c .before .before .put-first .ensures)
+returns-2 c = (begun-read _ _ _ _ _ _ _ _ _ _ _ _ _ _ _ _ (c .before .before .before .before .before .before .before .before .before .before .before .before .before .before .before .before .before .before .read-front .ensures) _ (c .before .before .before .before .before .before .before .before .before .before .before .begin .ensures) _ (c .before .before .before .before .before .before .before .before .before .ponds-of .ensures) (c .before .before .before .before .before .before .before .if1 .left) (c .before .before .put-first .ensures .0), c .before .before .put-first .ensures .1)
 
 pub begin-plan-spec : {M : Type 1} → statement M
 begin-plan-spec =

@@ -1,3 +1,3 @@
 -- The modules of proofs that belong to no one function.
 mod Carrying
-mod Stages
+pub mod Stages

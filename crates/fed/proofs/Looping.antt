@@ -52,6 +52,7 @@ stands-fed {full} {front₀} {bytes = bytes} {text} input (in-plan o p e) (plan-
   where
     told : text ++ take (b .end) lines ≡ take (b .end) lines
     told = ap (λ (x : List ℕ). x ++ take (b .end) lines) e
+
     go : (n : ℕ) → b .number ≡ n → Stands full front₀ (record { begun = true; number = b .number; part = part .length; events = 0; links = b .links; ponds = b .ponds; used = part .used; end = b .end }) front rows into out ends kept (bytes ++ take (part .used) input) (text ++ take (b .end) lines)
     go zero z = in-events refl z (runs.to-mark p k m) g z refl refl runs.none (sym (append-nil (bytes ++ take (part .used) input))) (told ∙ sym (append-nil (take (b .end) lines)))
     go (suc n) z = in-vain [] refl (λ h. omega (arith, z, h)) (runs.to-mark p k m) g (λ h. omega (arith, z, h)) (sym (append-nil (bytes ++ take (part .used) input))) told

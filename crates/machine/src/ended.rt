@@ -9,11 +9,12 @@ ghost use Rattle.machine.specs.Feeds.{Finishes};
 use crate::Stage;
 use engine::KEPT;
 use engine::LIST;
-use feeding::begin_plan;
+use feeding::begin_read;
 use feeding::keep_rest;
-use feeding::put_last;
+use feeding::put_end;
 use plan::ACCEPTED;
 use rows::SHEET;
+use stream::read_front;
 
 // The input has ended in the plan part: the plan is read, and has no events.
 fn finish_plan(
@@ -32,10 +33,10 @@ fn finish_plan(
     ensures { λ r. ⌜ Finishes full stage (now (front .entry)) (now (rows .entry)) (now (into .entry)) (now (out .entry)) (now (ends .entry)) (now (kept .entry)) (now (rest .entry)) (now (lines .entry)) (now (lines .exit)) r ⌝ }
 {
     let part = keep_rest(front, stage.part, rest);
-    let plan = begin_plan(
+    let reading = read_front(part, &*front);
+    let begun = begin_read(
         full,
-        part,
-        &*front,
+        reading,
         &mut *rows,
         &mut *into,
         &mut *out,
@@ -43,13 +44,15 @@ fn finish_plan(
         &mut *kept,
         lines,
     );
-    if plan.number != ACCEPTED {
-        return plan.end;
+    if begun.number != ACCEPTED {
+        return begun.end;
     }
-    put_last(part, &*front, &*kept, 0, lines, plan.end)
+    let plan = reading.plan;
+    put_end(plan, &*kept, 0, lines, begun.end)
 }
 
-// The input has ended, with some bytes of an unfinished record; answers where the last lines end.
+// The input has ended, with some bytes of an unfinished record; answers where the last lines end. The plan is read again
+// where it stands.
 pub fn finish(
     full: bool,
     stage: Stage,
@@ -82,5 +85,7 @@ pub fn finish(
     if stage.number != ACCEPTED {
         return 0;
     }
-    put_last(stage.part, &*front, &*kept, rest.len(), lines, 0)
+    let again = read_front(stage.part, &*front);
+    let plan = again.plan;
+    put_end(plan, &*kept, rest.len(), lines, 0)
 }

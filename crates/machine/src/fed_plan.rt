@@ -8,9 +8,10 @@ ghost use Rattle.machine.specs.Feeds.{Feeds};
 use crate::Stage;
 use engine::KEPT;
 use engine::LIST;
-use feeding::begin_plan;
+use feeding::begin_read;
 use feeding::keep_plan;
 use rows::SHEET;
+use stream::read_front;
 
 // A piece of the plan part, or the rest of it with the mark.
 pub(crate) fn feed_plan(
@@ -43,10 +44,10 @@ pub(crate) fn feed_plan(
             end: 0,
         };
     }
-    let plan = begin_plan(
+    let reading = read_front(part.length, &*front);
+    let plan = begin_read(
         full,
-        part.length,
-        &*front,
+        reading,
         &mut *rows,
         &mut *into,
         &mut *out,

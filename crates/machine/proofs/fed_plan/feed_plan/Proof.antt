@@ -14,8 +14,11 @@ same-length c = search needs
 returns : tie.Need-returns
 returns c = plan-on (c .before .before .before .before .before .before .before .before .before .before .before .pre .1) (c .before .before .before .before .before .before .keep-plan .ensures) (not-true _ (c .before .before .if1 .taken))
 
-begin-plan-requires : tie.Need-begin-plan-requires
-begin-plan-requires c κs = search needs
+read-front-requires : tie.Need-read-front-requires
+read-front-requires c κs = search needs
+
+begin-read-requires : tie.Need-begin-read-requires
+begin-read-requires c κs = search needs
 
 same-length-2 : tie.Need-same-length-2
 same-length-2 c = search needs
@@ -24,7 +27,7 @@ same-length-3 : tie.Need-same-length-3
 same-length-3 c = search needs
 
 returns-2 : tie.Need-returns-2
-returns-2 c = plan-read (c .before .before .before .before .before .before .before .before .before .before .before .before .before .before .before .before .before .before .before .before .before .pre .1) (c .before .before .before .before .before .before .before .before .before .before .before .before .before .before .before .before .keep-plan .ensures) (not-false _ (c .before .before .before .before .before .before .before .before .before .before .before .before .if1 .left)) (c .before .before .before .before .begin-plan .ensures .0)
+returns-2 c = plan-read (c .before .before .before .before .before .before .before .before .before .before .before .before .before .before .before .before .before .before .before .before .before .before .pre .1) (c .before .before .before .before .before .before .before .before .before .before .before .before .before .before .before .before .before .keep-plan .ensures) (not-false _ (c .before .before .before .before .before .before .before .before .before .before .before .before .before .if1 .left)) (c .before .before .before .before .begin-read .ensures .0 .plan _ _ (c .before .before .before .before .before .before .before .before .before .before .before .read-front .ensures))
 
 pub feed-plan-spec : {M : Type 1} → statement M
 feed-plan-spec =
@@ -33,7 +36,8 @@ feed-plan-spec =
     keep-plan-requires
     same-length
     returns
-    begin-plan-requires
+    read-front-requires
+    begin-read-requires
     same-length-2
     same-length-3
     returns-2)

@@ -26,7 +26,7 @@ use Rattle.places.specs.Places.{ForEach, pondAt}
 use Rattle.stream.specs.Sheets.{readFront}
 use Rattle.saying.specs.Makes.{Made, BoardPut}
 use Rattle.saying.proofs.Making.{made-none, made-more}
-use Rattle.feeding.specs.Parts.{FirstPut, PlanBegun, tailText, TailPut, LastPut}
+use Rattle.feeding.specs.Parts.{FirstPut, PlanBegun, tailText, TailPut, EndPut, LastPut}
 use Rattle.feeding.specs.declared.begun.Begun.{Begun}
 
 -- ---- the plan is read
@@ -78,8 +78,11 @@ tail-none left lines at e = record { made = rw (eq-eqb left 0 e) (made-none line
 pub tail-some : (left : ℕ) (lines₀ : List ℕ) (at : ℕ) (line : Line) {lines : List ℕ} {end : ℕ} → (left ≡ 0 → ⊥) → line ≡ tailLine → Made lines₀ at (textIn line) lines end → end ≤ at + room → TailPut left lines₀ at lines end
 tail-some left lines₀ at line e f m few = record { made = rw (ne-eqb left 0 e) (rw f at m); few = few }
 
-pub last-by : (n : ℕ) (front kept : List ℕ) (left : ℕ) (lines₀ : List ℕ) (at : ℕ) (r : Reading) (b : Board) (line : Line) {lines₁ lines₂ : List ℕ} {mid end : ℕ} → TailPut left lines₀ at lines₁ mid → r ≡ readFront n front
-    → BoardIn kept b → line ≡ endLine (r .plan) b → Made lines₁ mid (textIn line) lines₂ end → LastPut n front kept left lines₀ at lines₂ end
-last-by n front kept left lines₀ at r b line t e h f m =
-    let g : line ≡ endLine (readFront n front .plan) b = f ∙ ap (λ (x : Reading). endLine (x .plan) b) e in
-    record { board = b; holds = h; made = made-more (t .made) (rw g at m) }
+pub end-by : (p : Plan) (kept : List ℕ) (left : ℕ) (lines₀ : List ℕ) (at : ℕ) (b : Board) (line : Line) {lines₁ lines₂ : List ℕ} {mid end : ℕ} → TailPut left lines₀ at lines₁ mid
+    → BoardIn kept b → line ≡ endLine p b → Made lines₁ mid (textIn line) lines₂ end → EndPut p kept left lines₀ at lines₂ end
+end-by p kept left lines₀ at b line t h f m = record { board = b; holds = h; made = made-more (t .made) (rw f at m) }
+
+-- the plan was read from the front room
+pub last-of : (n : ℕ) (front : List ℕ) (r : Reading) → r ≡ readFront n front → {kept : List ℕ} {left : ℕ} {lines₀ : List ℕ} {at : ℕ} {lines : List ℕ} {end : ℕ} → EndPut (r .plan) kept left lines₀ at lines end
+    → LastPut n front kept left lines₀ at lines end
+last-of n front r e x = record { board = x .board; holds = x .holds; made = rw e at (x .made) }

@@ -8,6 +8,7 @@ use lib.ListN.{length, take, drop}
 use Rattle.plan.specs.Choice.{if_then_else_}
 use Rattle.plan.specs.Limits.{mostPoints, recordBytes}
 use Rattle.plan.specs.declared.Plan.{Plan}
+use Rattle.plan.specs.declared.Reading.{Reading}
 use Rattle.links.specs.declared.Links.{Links}
 use Rattle.board.specs.Streams.{eventsIn}
 use Rattle.board.specs.declared.Board.{Board}
@@ -68,6 +69,10 @@ pub record PlanBegun (full : Bool) (n : ℕ) (front rows₀ into₀ out₀ ends�
   pub refused : (r .number ≡ 0 → ⊥) → Made lines₀ 0 (textIn (planLine (readFront n front .number) (readFront n front .place))) lines (r .end)
   pub read : r .number ≡ 0 → FirstPut full (readFront n front .plan) (r .links) (r .ponds) rows out kept lines₀ lines (r .end)
 
+-- the same of what a plan part was read to: whatever bytes read to it
+pub record ReadBegun (full : Bool) (reading : Reading) (rows₀ into₀ out₀ ends₀ kept₀ lines₀ rows into out ends kept lines : List ℕ) (r : Begun) : Type 0 where
+  pub plan : (n : ℕ) (front : List ℕ) → reading ≡ readFront n front → PlanBegun full n front rows₀ into₀ out₀ ends₀ kept₀ lines₀ rows into out ends kept lines r
+
 -- ---- the end
 
 -- tail where n bytes of an unfinished record are left
@@ -78,7 +83,13 @@ pub record TailPut (n : ℕ) (lines₀ : List ℕ) (at : ℕ) (lines : List ℕ)
   pub made : Made lines₀ at (tailText n) lines end
   pub few : end ≤ at + room
 
--- and how the sheet ends
+-- and how the sheet of a plan ends
+pub record EndPut (p : Plan) (kept : List ℕ) (left : ℕ) (lines₀ : List ℕ) (at : ℕ) (lines : List ℕ) (end : ℕ) : Type 0 where
+  pub board : Board
+  pub holds : BoardIn kept board
+  pub made : Made lines₀ at (tailText left ++ textIn (endLine p board)) lines end
+
+-- the same of the plan that stands in the front room
 pub record LastPut (n : ℕ) (front kept : List ℕ) (left : ℕ) (lines₀ : List ℕ) (at : ℕ) (lines : List ℕ) (end : ℕ) : Type 0 where
   pub board : Board
   pub holds : BoardIn kept board

@@ -1,10 +1,12 @@
-// The plan is read and its rooms are filled; and what is printed behind the events.
+// The rooms of a plan that is read are filled; and what is printed behind the events. Reading it is the caller's, so that no copy of a plan lies
+// on the stack beneath the reading.
 ghost use mathlib.Core.Path.{_≡_};
 ghost use Prim.Native.Nat.{_+_, _*_, _≤_};
 ghost use lib.ListN.{length};
+ghost use Rattle.plan.specs.Limits.{mostPoints};
 ghost use Rattle.lines.specs.Text.{room};
 ghost use Rattle.saying.specs.Makes.{mostMade};
-ghost use Rattle.feeding.specs.Parts.{FirstPut, PlanBegun, TailPut, LastPut};
+ghost use Rattle.feeding.specs.Parts.{FirstPut, ReadBegun, TailPut, EndPut};
 use engine::KEPT;
 use engine::LIST;
 use links::Links;
@@ -12,10 +14,10 @@ use places::ROOM;
 use places::ponds_of;
 use plan::ACCEPTED;
 use plan::Plan;
+use plan::Reading;
 use rows::SHEET;
 use saying::put_board;
 use saying::put_line;
-use stream::read_front;
 
 // The plan's own refusal, or number 0; the links and the pond of each point; and where the lines end.
 pub struct Begun {
@@ -37,7 +39,8 @@ fn put_first(
     lines: &mut [u8],
 ) -> usize
     requires { ⌜ mostMade ≤ length (now lines) ⌝ }
-    ensures { λ r. ⌜ FirstPut full plan links ponds (now (rows .entry)) (now (out .entry)) (now (kept .entry)) (now (lines .entry)) (now (lines .exit)) r ⌝ }
+    ensures made { λ r. ⌜ FirstPut full plan links ponds (now (rows .entry)) (now (out .entry)) (now (kept .entry)) (now (lines .entry)) (now (lines .exit)) r ⌝ }
+    ensures few { λ r. ⌜ r ≤ room * (mostPoints + 2) ⌝ }
 {
     if !full {
         return 0;
@@ -46,11 +49,10 @@ fn put_first(
     put_board(links, ponds, rows, out, kept, lines, first)
 }
 
-// The plan part, so many bytes of which the first stand in the room, has ended.
-pub fn begin_plan(
+// The plan part has ended, and reads to this.
+pub fn begin_read(
     full: bool,
-    part: u64,
-    front: &[u8],
+    reading: Reading,
     rows: &mut [u32; SHEET],
     into: &mut [u16; LIST],
     out: &mut [u16; LIST],
@@ -59,9 +61,9 @@ pub fn begin_plan(
     lines: &mut [u8],
 ) -> Begun
     requires { ⌜ mostMade ≤ length (now lines) ⌝ }
-    ensures { λ r. ⌜ PlanBegun full part (now (front .entry)) (now (rows .entry)) (now (into .entry)) (now (out .entry)) (now (ends .entry)) (now (kept .entry)) (now (lines .entry)) (now (rows .exit)) (now (into .exit)) (now (out .exit)) (now (ends .exit)) (now (kept .exit)) (now (lines .exit)) r ⌝ }
+    ensures begun { λ r. ⌜ ReadBegun full reading (now (rows .entry)) (now (into .entry)) (now (out .entry)) (now (ends .entry)) (now (kept .entry)) (now (lines .entry)) (now (rows .exit)) (now (into .exit)) (now (out .exit)) (now (ends .exit)) (now (kept .exit)) (now (lines .exit)) r ⌝ }
+    ensures few { λ r. ⌜ r .end ≤ room * (mostPoints + 2) ⌝ }
 {
-    let reading = read_front(part, front);
     let plan = reading.plan;
     let started = engine::begin(
         plan,
@@ -100,20 +102,11 @@ fn put_tail(left: usize, lines: &mut [u8], at: usize) -> usize
     put_line(lines, at, text::tail_line())
 }
 
-// `tail`, and how the sheet ends: the plan is read again where it stands.
-pub fn put_last(
-    part: u64,
-    front: &[u8],
-    kept: &[u32; KEPT],
-    left: usize,
-    lines: &mut [u8],
-    at: usize,
-) -> usize
+// `tail`, and how the sheet of a plan ends.
+pub fn put_end(plan: Plan, kept: &[u32; KEPT], left: usize, lines: &mut [u8], at: usize) -> usize
     requires { ⌜ at + room * 2 ≤ length (now lines) ⌝ }
-    ensures { λ r. ⌜ LastPut part (now (front .entry)) (now (kept .entry)) left (now (lines .entry)) at (now (lines .exit)) r ⌝ }
+    ensures { λ r. ⌜ EndPut plan (now (kept .entry)) left (now (lines .entry)) at (now (lines .exit)) r ⌝ }
 {
     let end = put_tail(left, lines, at);
-    let again = read_front(part, front);
-    let plan = again.plan;
     put_line(lines, end, text::end_line(plan, engine::board_of(kept)))
 }

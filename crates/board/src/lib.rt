@@ -1,8 +1,7 @@
 // The board: soundness and events. Document 01, "Board, windows, replies" and "Events"; specs/ states them in that order.
 // `fresh`, `minute_of`, `is_sound`, `is_finished`, `take` and `take_all` take any plan, any board and any bytes and answer;
-// `windows_of`, `is_sound_by` and `is_finished_by` serve the crates `replies` and `verdict`, and the first assumes what its
-// contract asks;
-// `after` and `answer` serve `planless_board`.
+// `is_sound_by` and `is_finished_by` serve the crates `replies` and `verdict`, and `take_from` an engine that keeps the windows and
+// does not carry the plan along: they take any links, any board and any windows.
 
 ghost use mathlib.Core.Path.{_≡_};
 ghost use Rattle.board.specs.Boards.{fresh};
@@ -14,6 +13,7 @@ mod stream;
 
 pub use event::after;
 pub use event::answer;
+pub use event::take_from;
 pub use links::BEFORE_CLOCK;
 pub use links::NOT_IN_TIME;
 pub use links::NOT_RUNNING;
@@ -23,7 +23,6 @@ pub use sound::is_sound_by;
 pub use sound::minute_of;
 pub use standing::is_finished;
 pub use standing::is_finished_by;
-pub use standing::windows_of;
 pub use stream::SAID;
 pub use windows::ALL_DONE;
 pub use windows::IS_STUCK;

@@ -15,8 +15,11 @@ use Rattle.points.proofs.Laws.{member-empty, member-with, with-fits, with-past}
 use Rattle.plan.specs.Choice.{if_then_else_}
 use Rattle.plan.specs.Limits.{mostPoints}
 use Rattle.plan.specs.APlan.{point, link, byteOf, is, one, howMany, some, endsAt, watched, firstThat, linkTo, blank}
+use Rattle.plan.specs.ReplyNumbers.{checkOf}
+use Rattle.plan.specs.declared.Plan.{Plan}
+use Rattle.plan.specs.declared.Refusal.{Refusal}
 use Rattle.records.specs.declared.Record.{Record}
-use Rattle.links.specs.Inside.{endIn, noEnd, endOf, watchedAfter, endAfter, LinksOf}
+use Rattle.links.specs.Inside.{endIn, noEnd, endOf, watchedAfter, endAfter, Known, LinksOf}
 use Rattle.links.specs.declared.End.{End}
 use Rattle.links.specs.declared.Links.{Links}
 use Rattle.plan.proofs.Accepted.{Accepted, first-found}
@@ -133,6 +136,11 @@ module _ (rs : List Record) (i n s : ℕ) (ends : List End) (w : LinksOf (take i
       let p : is point r ≡ false = ne-eqb (r .kind) (byteOf point) (λ q. omega (arith, k)) in
       let z : n + 0 ≡ n = omega arith in
       rw (p, z) at (links-turn rs i n s ends w h r e)
+
+-- ---- that a plan is accepted
+
+pub known : (p : Plan) (found : Refusal) → found ≡ checkOf p → found .number ≡ 0 → Known p true
+known p found e z = record { accepted = λ t. rw e at z }
 
 -- ---- behind the first record that is neither a point nor a link
 

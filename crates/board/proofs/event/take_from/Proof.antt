@@ -1,10 +1,10 @@
--- `planless_board::take_from` meets its contract. Assumes nothing.
+-- `board::event::take_from` meets its contract. Assumes nothing.
 use native.Mathlib.Omega.{arith}
 use borrow.Author.Needs.{needs}
 use Rattle.events.proofs.Forming.{formed-length}
-use Rattle.planless_board.proofs.Answering.{formed, refuses, takes}
-use Rattle.planless_board.proofs.take_from.Statement.{statement}
-use Rattle.planless_board.proofs.take_from.Tie as tie
+use Rattle.board.proofs.ByPlan.{formed, refuses, takes}
+use Rattle.board.proofs.event.take_from.Statement.{statement}
+use Rattle.board.proofs.event.take_from.Tie as tie
 
 number-from-requires : tie.Need-number-from-requires
 number-from-requires c κs = search needs
@@ -35,7 +35,7 @@ returns-2 : tie.Need-returns-2
 returns-2 c =
     let a = c .before .before .before .before .before .before .before .before .before .args in
     let t = rw (c .before .after .ensures, c .before .before .before .event-in .ensures .0) at (c .answer2 .ensures) in
-    takes (a .links) (a .board) (a .w) (a .event .now) _ (c .before .before .before .before .before .before .number-from .ensures) _ (c .before .before .before .before .if1 .left) _ (c .before .before .next-call .ensures) t
+    takes (a .links) (a .board) (a .w) (a .event .now) _ (c .before .before .before .before .before .before .number-from .ensures) _ (c .before .before .before .before .if1 .left) (c .before .before .before .event-in .ensures .1) _ (c .before .before .next-call .ensures) t
 
 pub take-from-spec : {M : Type 1} → statement M
 take-from-spec =

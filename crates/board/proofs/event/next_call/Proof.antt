@@ -1,8 +1,8 @@
--- `planless_board::next_call` meets its contract. Assumes nothing.
+-- `board::event::next_call` meets its contract. Assumes nothing.
 use borrow.Author.Needs.{needs}
 use native.Mathlib.Omega.{arith}
-use Rattle.planless_board.proofs.next_call.Statement.{statement}
-use Rattle.planless_board.proofs.next_call.Tie as tie
+use Rattle.board.proofs.event.next_call.Statement.{statement}
+use Rattle.board.proofs.event.next_call.Tie as tie
 
 last-done-requires : tie.Need-last-done-requires
 last-done-requires c κs = search needs

@@ -1,8 +1,8 @@
--- `planless_board::reply_from` meets its contract. Assumes nothing.
+-- `replies::reply_from` meets its contract. Assumes nothing.
 use borrow.Author.Needs.{needs}
-use Rattle.planless_board.proofs.Answering.{finishes, sticks, waits, offers}
-use Rattle.planless_board.proofs.reply_from.Statement.{statement}
-use Rattle.planless_board.proofs.reply_from.Tie as tie
+use Rattle.replies.proofs.ByPlan.{finishes, sticks, waits, offers}
+use Rattle.replies.proofs.reply_from.Statement.{statement}
+use Rattle.replies.proofs.reply_from.Tie as tie
 
 first-points-requires : tie.Need-first-points-requires
 first-points-requires c κs = search needs

@@ -1,16 +1,15 @@
 -- The taking of an event from links and windows, by how far the tests come; and from an accepted plan's links and a board's windows
 -- the number of an event with the record beside it, and the event taken, are those from the plan's records, and the board after it
 -- is sound. Assumes nothing.
-use mathlib.Core.Path.{_≡_, sym, ap, _∙_}
-use mathlib.Core.Bool.{Bool, true, false, not}
+use mathlib.Core.Path.{_≡_, ap, _∙_}
+use mathlib.Core.Bool.{true, not}
 use mathlib.Core.List.{List}
 use Prim.Native.Nat.{ℕ, _^_, _<_}
 use native.Mathlib.Omega.{arith}
 use lib.Dec.{eqb}
-use borrow.Author.Tests.{eq-eqb, ne-eqb, eqb-true}
+use borrow.Author.Tests.{eq-eqb, ne-eqb}
 use Rattle.plan.specs.Choice.{if_then_else_}
 use Rattle.plan.specs.APlan.{recordsOf}
-use Rattle.plan.specs.ReplyNumbers.{checkOf}
 use Rattle.plan.specs.declared.Plan.{Plan}
 use Rattle.plan.specs.declared.Refusal.{Refusal}
 use Rattle.plan.proofs.Accepted.{Accepted, accepted-plan}

@@ -108,7 +108,7 @@ fn next_call(board: Board) -> u32
 
 // One event, from the plan's links and the windows of the board before it: the next board, or a number with the record beside it
 // and the same board.
-pub fn take_from(links: Links, board: Board, w: Windows, event: &[u8]) -> Taken
+fn take_from(links: Links, board: Board, w: Windows, event: &[u8]) -> Taken
     ensures taken { λ t. ⌜ t ≡ takenBy links board w (now (event .entry)) ⌝ }
     ensures set { λ _. ⌜ SetFits links board w (now (event .entry)) ⌝ }
 {

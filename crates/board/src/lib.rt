@@ -1,7 +1,7 @@
 // The board: soundness and events. Document 01, "Board, windows, replies" and "Events"; specs/ states them in that order.
 // `fresh`, `minute_of`, `is_sound`, `is_finished`, `take` and `take_all` take any plan, any board and any bytes and answer;
-// `is_sound_by` and `is_finished_by` serve the crates `replies` and `verdict`, and `take_from` an engine that keeps the windows and
-// does not carry the plan along: they take any links, any board and any windows.
+// `is_sound_by` and `is_finished_by` serve the crates `replies` and `verdict`;
+// `after` and `answer` serve `planless_board`.
 
 ghost use mathlib.Core.Path.{_≡_};
 ghost use Rattle.board.specs.Boards.{fresh};
@@ -13,7 +13,6 @@ mod stream;
 
 pub use event::after;
 pub use event::answer;
-pub use event::take_from;
 pub use links::BEFORE_CLOCK;
 pub use links::NOT_IN_TIME;
 pub use links::NOT_RUNNING;

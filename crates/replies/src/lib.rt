@@ -142,7 +142,7 @@ pub fn list(
 }
 
 // The reply to a board of such windows: the first outcome that fits.
-pub fn reply_from(links: Links, board: Board, w: Windows) -> Reply
+fn reply_from(links: Links, board: Board, w: Windows) -> Reply
     ensures { λ r. ⌜ r ≡ replyBy links board w ⌝ }
 {
     if board.done == first_points(links.points) {

@@ -6,3 +6,4 @@ pub mod Linked
 pub mod Replying
 pub mod Taking
 pub mod Streaming
+pub mod ByPlan

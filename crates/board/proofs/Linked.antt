@@ -10,6 +10,7 @@ use Rattle.plan.specs.Limits.{mostPoints, farthest}
 use Rattle.plan.specs.APlan.{points, watched, recordsOf}
 use Rattle.plan.specs.ReplyNumbers.{checkOf}
 use Rattle.plan.specs.declared.Plan.{Plan}
+use Rattle.plan.specs.declared.Refusal.{Refusal}
 use Rattle.records.specs.declared.Record.{Record}
 use Rattle.plan.proofs.Accepted.{accepted-plan}
 use Rattle.links.specs.Inside.{LinksOf}
@@ -19,6 +20,7 @@ use Rattle.running.proofs.ByRecords.{all-sound}
 use Rattle.board.specs.Boards.{fits, largest, each, inBounds, sound}
 use Rattle.board.specs.Calls.{earlier, wellNumbered}
 use Rattle.board.specs.Stuck.{finished}
+use Rattle.board.specs.InsideReplies.{Ready}
 use Rattle.board.specs.ByLinks.{soundElse, soundBy}
 use Rattle.board.specs.declared.Board.{Board}
 
@@ -58,6 +60,10 @@ sound-by p ok l w b =
 -- whatever the code has for it
 pub sound-known : (p : Plan) → checkOf p .number ≡ 0 → (l : Links) → LinksOf (recordsOf p) l → (b : Board) (t k : Bool) → t ≡ soundBy l b → t ≡ k → sound (recordsOf p) b ≡ k
 sound-known p ok l w b t k e f = sym (sound-by p ok l w b) ∙ sym e ∙ f
+
+-- what is known where the plan is accepted and its links say that the board is sound
+pub ready-known : (p : Plan) (found : Refusal) → found ≡ checkOf p → found .number ≡ 0 → (l : Links) → LinksOf (recordsOf p) l → (b : Board) (t : Bool) → t ≡ soundBy l b → t ≡ true → Ready p b l
+ready-known p found e z l w b t k f = record { accepted = rw e at z; sound = sound-known p (rw e at z) l w b t true k f; links = w }
 
 -- all points are done, by the links
 pub finished-known : (rs : List Record) (l : Links) → LinksOf rs l → (b : Board) (t k : Bool) → t ≡ eqb (b .done) (belowOf (l .points)) → t ≡ k → finished rs b ≡ k

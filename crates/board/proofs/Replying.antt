@@ -1,27 +1,24 @@
--- What the windows say of a board: whether something is open, whether every open Low is above H, and how small its clock is.
--- Assumes nothing.
+-- What the windows say of a board: whether something is open, and whether every open Low is above H. Assumes nothing.
 use mathlib.Core.Path.{_≡_, refl, sym, ap, _∙_}
 use mathlib.Core.Bool.{Bool, true, false, not, cond, _&&_, _||_}
 use mathlib.Core.List.{List, _∷_}
-use Prim.Native.Nat.{ℕ, zero, suc, _+_, _-_, _^_, _≤_, _<_}
+use Prim.Native.Nat.{ℕ, zero, suc, _+_, _≤_, _<_}
 use native.Mathlib.Omega.{arith}
 use borrow.Author.Tests.{eqb-true, eqb-false, not-true}
 use lib.Dec.{lit<, eqb, ltb}
 use lib.ListN.{getD}
 use Rattle.points.specs.Sets.{member, membersOf, passing, from, every}
-use Rattle.points.proofs.Laws.{member-empty, same-members, count-le}
+use Rattle.points.proofs.Laws.{member-empty, same-members}
 use Rattle.plan.specs.Choice.{if_then_else_}
 use Rattle.plan.specs.Limits.{mostPoints, farthest}
 use Rattle.plan.specs.APlan.{some}
 use Rattle.records.specs.declared.Record.{Record}
-use Rattle.board.specs.Boards.{running, sound}
+use Rattle.board.specs.Boards.{running}
 use Rattle.board.specs.Windows.{isOpen, low, H, someOpen, allAbove}
-use Rattle.lowhigh.specs.Inside.{lastMinute}
 use Rattle.windows.specs.Inside.{stuckFrom}
 use Rattle.board.specs.Stuck.{stuck}
 use Rattle.board.specs.InsideReplies.{WindowsOf}
 use Rattle.board.proofs.Theorems.Each.{every-point, point-every}
-use Rattle.board.proofs.Theorems.Soundness.{Sound}
 use Rattle.board.specs.declared.Board.{Board}
 use Rattle.windows.specs.declared.Windows.{Windows}
 
@@ -69,7 +66,3 @@ module _ (rs : List Record) (b : Board) (w : Windows) (have : WindowsOf rs b w) 
           → (if k then not (some (running b) rs) else every (λ (q : ℕ). ltb (w .high) (getD (w .lows) q 0 + farthest)) (membersOf (w .opens))) ≡ stuck rs b
       go true e = rw (nothing-open (eqb-true (w .opens) 0 e))
       go false e = rw (something-open (eqb-false (w .opens) 0 e)) above-here
-
--- a sound board's clock is small
-pub clock-small : (rs : List Record) (b : Board) → Sound rs b → b .done < 2 ^ 32 → b .clock ≤ lastMinute
-clock-small rs b s d = omega (arith, s .few, count-le (b .done) d)

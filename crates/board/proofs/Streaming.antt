@@ -29,14 +29,14 @@ unfolding takeOf takenNext
 take-is-next p b s ok good = rw (ok, good)
 
 -- the board that is handed back is sound
-pub next-sound : (p : Plan) → checkOf p .number ≡ 0 → (b : Board) → HeldBoard b → sound (recordsOf p) b ≡ true → (s : List ℕ) → eventSet s < 2 ^ 32
-    → sound (recordsOf p) (takenNext (recordsOf p) b s .board) ≡ true
+pub next-sound : (p : Plan) → checkOf p .number ≡ 0 → (b : Board) → HeldBoard b → sound (recordsOf p) b ≡ true → (s : List ℕ)
+    → (eventNumber (recordsOf p) b s ≡ 0 → eventSet s < 2 ^ 32) → sound (recordsOf p) (takenNext (recordsOf p) b s .board) ≡ true
 unfolding takenNext
 next-sound p ok b held good s fits = go (eqb (eventNumber (recordsOf p) b s) 0) refl
   where
     go : (k : Bool) → eqb (eventNumber (recordsOf p) b s) 0 ≡ k
         → sound (recordsOf p) ((if not k then taken (eventNumber (recordsOf p) b s) (eventRecord (recordsOf p) b s) b else taken 0 0 (boardAfter b s)) .board) ≡ true
-    go true e = event-sound p ok b held good s fits (eqb-true _ _ e)
+    go true e = event-sound p ok b held good s (fits (eqb-true _ _ e)) (eqb-true _ _ e)
     go false e = good
 
 -- ---- the loop

@@ -9,3 +9,4 @@ pub mod Streams
 pub mod Inside
 pub mod InsideReplies
 pub mod ByLinks
+pub mod ByWindows

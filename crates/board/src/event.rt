@@ -5,8 +5,9 @@ ghost use mathlib.Core.Bool.{true};
 ghost use Rattle.points.specs.Sets.{membersOf};
 ghost use Rattle.plan.specs.APlan.{recordsOf};
 ghost use Rattle.board.specs.Boards.{sound};
-ghost use Rattle.board.specs.Events.{markAll, eventNumber, eventRecord, taken, takeOf};
+ghost use Rattle.board.specs.Events.{markAll, taken, takeOf};
 ghost use Rattle.board.specs.Inside.{clockAt, afterEvent, takenNext};
+ghost use Rattle.board.specs.ByWindows.{nextBy, takenBy, SetFits};
 ghost use Rattle.board.specs.InsideReplies.{Ready};
 use crate::Board;
 use crate::Taken;
@@ -17,16 +18,19 @@ use events::NO_POINT;
 use events::event_in;
 use history::last_done;
 use links::Links;
-use links::links_of;
+use links::links_by;
+use lowhigh::NEVER;
+use lowhigh::lesser;
 use plan::ACCEPTED;
 use plan::Plan;
-use plan::Refusal;
 use plan::check;
 use planless::number_from;
 use points::MOST;
 use points::first;
 use points::with;
 use points::without;
+use windows::Windows;
+use windows::windows_of;
 
 // The points of a set done at the minute t, which is the clock, by the event of number n.
 fn mark_set(board: Board, set: u32, t: u32, n: u32) -> Board
@@ -84,18 +88,6 @@ pub fn after(board: Board, e: Event, n: u32) -> Board
     }
 }
 
-// The number of an event on a sound board of an accepted plan, and the record beside it. Windows are those of the board before
-// the event.
-fn event_number(plan: Plan, board: Board, links: Links, event: &[u8]) -> Refusal
-    requires { ⌜ Ready plan board links ⌝ }
-    ensures number { λ r. ⌜ r .number ≡ eventNumber (recordsOf plan) board (now (event .entry)) ⌝ }
-    ensures place { λ r. ⌜ r .place ≡ eventRecord (recordsOf plan) board (now (event .entry)) ⌝ }
-{
-    let minutes = board.minutes;
-    let w = windows::windows_of(plan, links, board.clock, board.done, minutes);
-    number_from(links, board.clock, board.done, minutes, w, event)
-}
-
 pub fn answer(number: u32, place: u32, board: Board) -> Taken
     ensures { λ t. ⌜ t ≡ taken number place board ⌝ }
 {
@@ -106,19 +98,37 @@ pub fn answer(number: u32, place: u32, board: Board) -> Taken
     }
 }
 
+// The number of a board's next event, as far as there is one.
+fn next_call(board: Board) -> u32
+    ensures { λ n. ⌜ n ≡ nextBy board ⌝ }
+{
+    let calls = board.calls;
+    lesser(last_done(board.done, calls), NEVER - 1) + 1
+}
+
+// One event, from the plan's links and the windows of the board before it: the next board, or a number with the record beside it
+// and the same board.
+fn take_from(links: Links, board: Board, w: Windows, event: &[u8]) -> Taken
+    ensures taken { λ t. ⌜ t ≡ takenBy links board w (now (event .entry)) ⌝ }
+    ensures set { λ _. ⌜ SetFits links board w (now (event .entry)) ⌝ }
+{
+    let minutes = board.minutes;
+    let found = number_from(links, board.clock, board.done, minutes, w, event);
+    if found.number != ACCEPTED {
+        return answer(found.number, found.place, board);
+    }
+    let e = event_in(event);
+    answer(ACCEPTED, 0, after(board, e, next_call(board)))
+}
+
 // One event on a sound board of an accepted plan.
 pub(crate) fn take_next(plan: Plan, board: Board, links: Links, event: &[u8]) -> Taken
     requires { ⌜ Ready plan board links ⌝ }
     ensures { λ t. ⌜ (t ≡ takenNext (recordsOf plan) board (now (event .entry))) × (sound (recordsOf plan) (t .board) ≡ true) ⌝ }
 {
-    let found = event_number(plan, board, links, event);
-    if found.number != ACCEPTED {
-        return answer(found.number, found.place, board);
-    }
-    let e = event_in(event);
-    let calls = board.calls;
-    let n = last_done(board.done, calls) + 1;
-    answer(ACCEPTED, 0, after(board, e, n))
+    let minutes = board.minutes;
+    let w = windows_of(plan, links, board.clock, board.done, minutes);
+    take_from(links, board, w, event)
 }
 
 impl Board {
@@ -130,10 +140,12 @@ impl Board {
         if found.number != ACCEPTED {
             return answer(found.number, found.place, self);
         }
-        let links = links_of(plan);
+        let links = links_by(plan, true);
         if !is_sound_by(self, links) {
             return answer(UNSOUND, 0, self);
         }
-        take_next(plan, self, links, event)
+        let minutes = self.minutes;
+        let w = windows_of(plan, links, self.clock, self.done, minutes);
+        take_from(links, self, w, event)
     }
 }

@@ -1,7 +1,6 @@
 // The board: soundness and events. Document 01, "Board, windows, replies" and "Events"; specs/ states them in that order.
 // `fresh`, `minute_of`, `is_sound`, `is_finished`, `take` and `take_all` take any plan, any board and any bytes and answer;
-// `windows_of`, `is_sound_by` and `is_finished_by` serve the crates `replies` and `verdict`, and the first assumes what its
-// contract asks;
+// `is_sound_by` and `is_finished_by` serve the crates `replies` and `verdict`;
 // `after` and `answer` serve `planless_board`.
 
 ghost use mathlib.Core.Path.{_≡_};
@@ -23,7 +22,6 @@ pub use sound::is_sound_by;
 pub use sound::minute_of;
 pub use standing::is_finished;
 pub use standing::is_finished_by;
-pub use standing::windows_of;
 pub use stream::SAID;
 pub use windows::ALL_DONE;
 pub use windows::IS_STUCK;

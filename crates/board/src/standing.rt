@@ -1,16 +1,14 @@
-// How a board stands: whether it is finished, and its windows. The windows assume an accepted plan and a sound board.
+// How a board stands: whether it is finished, by any plan or by its links.
 ghost use mathlib.Core.Path.{_≡_};
 ghost use lib.Dec.{eqb};
 ghost use Rattle.points.specs.Sets.{belowOf};
 ghost use Rattle.plan.specs.APlan.{recordsOf};
 ghost use Rattle.board.specs.Stuck.{finished};
-ghost use Rattle.board.specs.InsideReplies.{Ready, WindowsOf};
 use crate::Board;
 use history::all_points;
 use history::first_points;
 use links::Links;
 use plan::Plan;
-use windows::Windows;
 
 // All points are done.
 pub fn is_finished(plan: Plan, board: Board) -> bool
@@ -24,13 +22,4 @@ pub fn is_finished_by(board: Board, links: Links) -> bool
     ensures { λ t. ⌜ t ≡ eqb (board .done) (belowOf (links .points)) ⌝ }
 {
     board.done == first_points(links.points)
-}
-
-// The windows.
-pub fn windows_of(plan: Plan, board: Board, links: Links) -> Windows
-    requires { ⌜ Ready plan board links ⌝ }
-    ensures { λ w. ⌜ WindowsOf (recordsOf plan) board w ⌝ }
-{
-    let minutes = board.minutes;
-    windows::windows_of(plan, links, board.clock, board.done, minutes)
 }

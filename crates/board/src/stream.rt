@@ -16,7 +16,7 @@ use crate::sound::is_sound_by;
 use events::fewer;
 use events::put_four;
 use links::Links;
-use links::links_of;
+use links::links_by;
 use plan::ACCEPTED;
 use plan::Plan;
 use plan::RECORD_BYTES;
@@ -67,7 +67,7 @@ impl Board {
         if found.number != ACCEPTED {
             return answer(found.number, found.place, self);
         }
-        let links = links_of(plan);
+        let links = links_by(plan, true);
         if !is_sound_by(self, links) {
             return answer(UNSOUND, 0, self);
         }

@@ -3,7 +3,7 @@
 use mathlib.Core.Path.{_≡_, refl, sym, _∙_}
 use mathlib.Core.Bool.{Bool, true, false, not, _&&_, _||_, true≢false}
 use mathlib.Core.List.{List, [], _∷_, _++_}
-use Prim.Native.Nat.{ℕ, _+_, _%_, _^_, _<_}
+use Prim.Native.Nat.{ℕ, zero, suc, _+_, _-_, _%_, _^_, _≤_, _<_}
 use native.Mathlib.Omega.{arith}
 use native.Mathlib.Decide.{ℕ-discrete}
 use lib.Dec.{eqb, ltb, lit<}
@@ -15,14 +15,17 @@ use Rattle.points.proofs.Laws.{member-empty, member-with, with-fits, with-past}
 use Rattle.plan.specs.Choice.{if_then_else_}
 use Rattle.plan.specs.Limits.{mostPoints}
 use Rattle.plan.specs.APlan.{point, link, byteOf, is, one, howMany, some, endsAt, watched, firstThat, linkTo, blank}
+use Rattle.plan.specs.ReplyNumbers.{checkOf}
+use Rattle.plan.specs.declared.Plan.{Plan}
+use Rattle.plan.specs.declared.Refusal.{Refusal}
 use Rattle.records.specs.declared.Record.{Record}
-use Rattle.links.specs.Inside.{endIn, noEnd, endOf, watchedAfter, endAfter, LinksOf}
+use Rattle.links.specs.Inside.{endIn, noEnd, endOf, watchedAfter, endAfter, Known, LinksOf}
 use Rattle.links.specs.declared.End.{End}
 use Rattle.links.specs.declared.Links.{Links}
-use Rattle.plan.proofs.Accepted.{first-found}
+use Rattle.plan.proofs.Accepted.{Accepted, first-found}
 use Rattle.history.specs.History.{runs}
 use Rattle.history.proofs.Tests.{both}
-use Rattle.plan.proofs.Records.{many-snoc, some-snoc, first-not, first-old, first-so, one-more}
+use Rattle.plan.proofs.Records.{many-snoc, some-snoc, first-not, first-old, first-so, one-more, all-of}
 
 abbrev pub linksAs : ℕ → ℕ → List End → Links
 linksAs n s ends = record { points = n; watched = s; ends = ends }
@@ -133,6 +136,30 @@ module _ (rs : List Record) (i n s : ℕ) (ends : List End) (w : LinksOf (take i
       let p : is point r ≡ false = ne-eqb (r .kind) (byteOf point) (λ q. omega (arith, k)) in
       let z : n + 0 ≡ n = omega arith in
       rw (p, z) at (links-turn rs i n s ends w h r e)
+
+-- ---- that a plan is accepted
+
+pub known : (p : Plan) (found : Refusal) → found ≡ checkOf p → found .number ≡ 0 → Known p true
+known p found e z = record { accepted = λ t. rw e at z }
+
+-- ---- behind the first record that is neither a point nor a link
+
+pub past-link : (rs : List Record) (i : ℕ) (r : Record) → getD rs i blank ≡ r → ltb (byteOf link) (r .kind) ≡ true → byteOf link < getD rs i blank .kind
+past-link rs i r e t = rw e (ltb-true (byteOf link) (r .kind) t)
+
+module _ (rs : List Record) (ok : Accepted rs) (i : ℕ) (past : byteOf link < getD rs i blank .kind) (n s : ℕ) (ends : List End) where
+  -- kinds never fall, so each record from there on changes nothing
+  onward : (m k : ℕ) → k + m ≡ length rs → i ≤ k → LinksOf (take k rs) (linksAs n s ends) → LinksOf rs (linksAs n s ends)
+  onward zero k e h w = rw (all-of rs k (omega arith)) at w
+  onward (suc m) k e h w =
+      let l : k < length rs = omega arith in
+      let o = ok .sorted i k h l in
+      let p : is point (getD rs k blank) ≡ false = ne-eqb (getD rs k blank .kind) (byteOf point) (λ q. omega (arith, o, past)) in
+      let z : n + 0 ≡ n = omega arith in
+      onward m (k + 1) (omega arith) (omega arith) (rw (p, z) at (other-turn rs k n s ends w l _ refl (λ q. omega (arith, o, past))))
+
+  pub links-stop : i ≤ length rs → LinksOf (take i rs) (linksAs n s ends) → LinksOf rs (linksAs n s ends)
+  links-stop h w = onward (length rs - i) i (omega arith) (omega arith) w
 
 -- ---- the link that ends at a watched point
 

@@ -1,6 +1,6 @@
 -- What is kept of a plan's links, and what is answered by them. No reader of the rules needs this page. Assumes nothing.
 use mathlib.Core.Path.{_≡_}
-use mathlib.Core.Bool.{Bool, not, _&&_}
+use mathlib.Core.Bool.{Bool, true, not, _&&_}
 use mathlib.Core.List.{List}
 use Prim.Native.Nat.{ℕ, _+_, _<_, _^_}
 use lib.Dec.{ltb, leb}
@@ -9,7 +9,9 @@ use Rattle.points.specs.Sets.{member, membersOf, withOf, every}
 use Rattle.plan.specs.Choice.{if_then_else_}
 use Rattle.plan.specs.Limits.{mostPoints}
 use Rattle.plan.specs.APlan.{link, is, points, watched, linkTo}
+use Rattle.plan.specs.ReplyNumbers.{checkOf}
 use Rattle.records.specs.declared.Record.{Record}
+use Rattle.plan.specs.declared.Plan.{Plan}
 use Rattle.history.specs.History.{minuteIn, shortest, longest, each, notLate}
 use Rattle.links.specs.Ending.{endsRunning, inTime}
 use Rattle.links.specs.declared.End.{End}
@@ -41,6 +43,10 @@ pub record LinksOf (rs : List Record) (l : Links) : Type 0 where
   pub fits : l .watched < 2 ^ 32
   pub watches : (p : ℕ) → p < mostPoints → member (l .watched) p ≡ watched rs p
   pub ends : (p : ℕ) → p < mostPoints → getD (l .ends) p noEnd ≡ endOf rs p
+
+-- a plan is accepted where that is known of it
+pub record Known (p : Plan) (checked : Bool) : Type 0 where
+  pub accepted : checked ≡ true → checkOf p .number ≡ 0
 
 -- of the links l, the one to c is running where the points `done` are
 abbrev pub runsAt : ℕ → Links → ℕ → Bool

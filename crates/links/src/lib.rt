@@ -3,7 +3,7 @@
 // a link to a point past the last place is passed over. An inner room: it serves `board` and the crates around it.
 ghost use mathlib.Core.Path.{_≡_};
 ghost use Rattle.plan.specs.APlan.{recordsOf};
-ghost use Rattle.links.specs.Inside.{watchedAfter, endAfter, LinksOf};
+ghost use Rattle.links.specs.Inside.{watchedAfter, endAfter, Known, LinksOf};
 
 mod sets;
 
@@ -72,8 +72,9 @@ fn end_after(r: Record, watched: u32, end: End) -> End
     }
 }
 
-// The links of a plan.
-pub fn links_of(plan: Plan) -> Links
+// The links of a plan. Where it is known to be accepted, no record behind the first that is neither a point nor a link is one.
+pub fn links_by(plan: Plan, checked: bool) -> Links
+    requires { ⌜ Known plan checked ⌝ }
     ensures { λ l. ⌜ LinksOf (recordsOf plan) l ⌝ }
 {
     let count = used(plan.count);
@@ -88,6 +89,9 @@ pub fn links_of(plan: Plan) -> Links
     let mut i: usize = 0;
     while i < count {
         let r = plan.records[i];
+        if checked & (LINK < r.kind) {
+            break;
+        }
         i += 1;
         if r.kind != LINK {
             points += one_if(r.kind == POINT);
@@ -103,4 +107,11 @@ pub fn links_of(plan: Plan) -> Links
         watched: watched,
         ends: ends,
     }
+}
+
+// The links of any plan.
+pub fn links_of(plan: Plan) -> Links
+    ensures { λ l. ⌜ LinksOf (recordsOf plan) l ⌝ }
+{
+    links_by(plan, false)
 }

@@ -90,4 +90,4 @@ pub taken-sound : (p : Plan) → checkOf p .number ≡ 0 → (l : Links) → Lin
     → (w : Windows) → windows.WindowsOf (recordsOf p) (b .clock) (b .done) (b .minutes) w → (s : List ℕ) → eventSet s < 2 ^ 32
     → sound (recordsOf p) (takenBy l b w s .board) ≡ true
 taken-sound p ok l has b held good w ws s fits =
-    rw (taken-same (recordsOf p) (accepted-plan p ok) l has b w ws s good (held .done)) (next-sound p ok b held good s fits)
+    rw (taken-same (recordsOf p) (accepted-plan p ok) l has b w ws s good (held .done)) (next-sound p ok b held good s (λ z. fits))

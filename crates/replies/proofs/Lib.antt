@@ -2,3 +2,4 @@
 pub mod Replying
 pub mod Numbers
 pub mod Offered
+pub mod ByPlan

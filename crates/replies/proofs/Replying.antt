@@ -22,10 +22,6 @@ use Rattle.board.specs.Windows.{isOpen, holder, low, someOpen}
 use Rattle.board.specs.Stuck.{finished, stuck, latest}
 use Rattle.links.specs.Inside.{LinksOf}
 use Rattle.board.specs.InsideReplies.{Ready, WindowsOf}
-use Rattle.board.proofs.Replying.{stuck-here}
-use Rattle.planless.specs.ByWindows.{stuckBy}
-use Rattle.planless.proofs.ByPlan.{stuck-same}
-use Rattle.plan.proofs.Accepted.{accepted-plan}
 use Rattle.board.specs.declared.Board.{Board}
 use Rattle.links.specs.declared.Links.{Links}
 use Rattle.windows.specs.declared.Windows.{Windows}
@@ -36,14 +32,6 @@ use Rattle.replies.specs.declared.State.{State}
 use Rattle.replies.specs.declared.State.the-variants.{Done, Watched, Shut, Held, Offered}
 use Rattle.replies.specs.declared.Outcome.{Outcome}
 use Rattle.replies.specs.declared.Outcome.the-variants.{Refused, Finished, Stuck, Waiting, Offers}
-
--- ---- whether the board is stuck, from the links and the windows
-
-pub stuck-known : (p : Plan) (b : Board) (l : Links) → Ready p b l → (w : Windows) → WindowsOf (recordsOf p) b w → (t k : Bool) → t ≡ stuckBy l (b .done) w → t ≡ k
-    → stuck (recordsOf p) b ≡ k
-stuck-known p b l r w ws t k e f =
-    let same = stuck-same (recordsOf p) (accepted-plan p (r .accepted)) l (r .links) (b .done) w in
-    sym (same ∙ stuck-here (recordsOf p) b w ws) ∙ sym e ∙ f
 
 -- ---- the list of an offer
 
@@ -147,6 +135,6 @@ module _ (p : Plan) (b : Board) (found : Refusal) (e : found ≡ checkOf p) wher
   unfolding replyOf
   reply-unsound z s = rw (is-accepted z, s)
 
-  pub reply-sound : found .number ≡ 0 → sound (recordsOf p) b ≡ true → soundReply (recordsOf p) b ≡ replyOf p b
-  unfolding replyOf
-  reply-sound z s = rw (is-accepted z, s)
+pub reply-ready : (p : Plan) (b : Board) (l : Links) → Ready p b l → soundReply (recordsOf p) b ≡ replyOf p b
+unfolding replyOf
+reply-ready p b l r = rw (r .accepted, r .sound)

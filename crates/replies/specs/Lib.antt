@@ -2,3 +2,4 @@
 pub mod Replies
 pub mod Numbers
 pub mod Inside
+pub mod ByWindows

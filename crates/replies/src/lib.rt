@@ -1,28 +1,28 @@
 // The reply to a board: the first outcome that fits, for an offer the latest, and for an offer, a waiting and a stuck board a state
-// for each point. Document 01, "Board, windows, replies", and document 02, §6. `reply_of` takes any plan and any board; the functions behind it assume what their contracts ask,
-// an accepted plan and a sound board.
+// for each point. Document 01, "Board, windows, replies", and document 02, §6. `reply_of` takes any plan and any board. `reply_from` answers without the plan, from any
+// links and any windows; where they are an accepted plan's and a sound board's, its answer is the one from the plan's records (`proofs/ByPlan`).
 ghost use mathlib.Core.Path.{_≡_};
-ghost use Rattle.plan.specs.APlan.{recordsOf};
-ghost use Rattle.board.specs.InsideReplies.{Ready};
-ghost use Rattle.replies.specs.Replies.{bare, soundReply, replyOf};
+ghost use Rattle.replies.specs.Replies.{bare, replyOf};
 ghost use Rattle.replies.specs.Numbers.{outcomeNumber, callNumber};
 ghost use Rattle.replies.specs.Inside.{stateFrom, listFrom};
+ghost use Rattle.replies.specs.ByWindows.{replyBy};
 use board::Board;
 use board::ROOM;
 use board::UNSOUND;
 use board::is_finished_by;
 use board::is_sound_by;
-use board::windows_of;
+use history::first_points;
 use links::Links;
-use links::links_of;
+use links::links_by;
 use plan::ACCEPTED;
 use plan::Plan;
 use plan::check;
+use planless::latest_from;
 use planless::stuck_from;
 use points::MOST;
 use points::has;
 use windows::Windows;
-use windows::latest_of;
+use windows::windows_of;
 
 // What is said of one point: done at a minute, watched, shut by a record (its number in the plan's file, 0 for none), held, or
 // offered from its Low.
@@ -141,29 +141,21 @@ pub fn list(
     }
 }
 
-// The reply to a sound board of an accepted plan.
-fn reply_sound(plan: Plan, board: Board, links: Links) -> Reply
-    requires { ⌜ Ready plan board links ⌝ }
-    ensures { λ r. ⌜ r ≡ soundReply (recordsOf plan) board ⌝ }
+// The reply to a board of such windows: the first outcome that fits.
+fn reply_from(links: Links, board: Board, w: Windows) -> Reply
+    ensures { λ r. ⌜ r ≡ replyBy links board w ⌝ }
 {
-    if is_finished_by(board, links) {
+    if board.done == first_points(links.points) {
         return nothing_more(Outcome::Finished);
     }
-    let w = windows_of(plan, board, links);
     if stuck_from(links, board.done, w) {
         return list(Outcome::Stuck, board, links.watched, w, false, 0);
     }
     if w.opens == 0 {
         return list(Outcome::Waiting, board, links.watched, w, false, 0);
     }
-    list(
-        Outcome::Offers,
-        board,
-        links.watched,
-        w,
-        true,
-        latest_of(board.clock, w.high),
-    )
+    let latest = latest_from(board.clock, w.high);
+    list(Outcome::Offers, board, links.watched, w, true, latest)
 }
 
 // What a board is: the plan's own refusal first, then 20, then the first outcome that fits.
@@ -175,9 +167,14 @@ pub fn reply_of(plan: Plan, board: Board) -> Reply
     if found.number != ACCEPTED {
         return nothing_more(Outcome::Refused(found.number, found.place));
     }
-    let links = links_of(plan);
+    let links = links_by(plan, true);
     if !is_sound_by(board, links) {
         return nothing_more(Outcome::Refused(UNSOUND, 0));
     }
-    reply_sound(plan, board, links)
+    if is_finished_by(board, links) {
+        return nothing_more(Outcome::Finished);
+    }
+    let minutes = board.minutes;
+    let w = windows_of(plan, links, board.clock, board.done, minutes);
+    reply_from(links, board, w)
 }

@@ -9,7 +9,8 @@ use native.Mathlib.Numerals.{add-one}
 use lib.Dec.{eqb, leb}
 use lib.ListN.{length, drop, getD, drop-of-length-le}
 use lib.Seq.{drop-cons}
-use borrow.Author.Tests.{eqb-true}
+use borrow.Author.Tests.{eqb-true, ne-eqb}
+use Rattle.points.specs.Sets.{belowOf}
 use Rattle.plan.specs.Choice.{if_then_else_}
 use Rattle.plan.specs.Limits.{mostPoints}
 use Rattle.plan.specs.APlan.{point, ordinary, wait, is, linkTo, gapOf, blank, recordsOf}
@@ -20,14 +21,16 @@ use Rattle.plan.specs.declared.Plan.{Plan}
 use Rattle.plan.specs.declared.Refusal.{Refusal}
 use Rattle.bounds.specs.Bounds.{boundKept}
 use Rattle.board.proofs.Theorems.Links.{link-to}
-use Rattle.board.specs.Boards.{minute, sound}
-use Rattle.board.specs.Stuck.{finished}
-use Rattle.verdict.specs.Verdicts.{ordinaryKept, waitKept, kept, firstBroken, endedOf}
-use Rattle.links.specs.Inside.{noEnd, endOf}
-use Rattle.verdict.specs.Inside.{keptAt}
+use Rattle.board.proofs.Linked.{sound-by}
+use Rattle.board.specs.ByLinks.{soundBy}
+use Rattle.board.specs.Boards.{minute}
+use Rattle.verdict.specs.Verdicts.{ordinaryKept, waitKept, kept, firstBroken, endedOf, verdictOf}
+use Rattle.links.specs.Inside.{noEnd, endOf, LinksOf}
+use Rattle.verdict.specs.Inside.{keptAt, endedBy}
 use Rattle.board.specs.declared.Board.{Board}
-use Rattle.verdict.specs.declared.Verdict.the-variants.{Kept, Broken}
+use Rattle.verdict.specs.declared.Verdict.the-variants.{Refused, Kept, Broken}
 use Rattle.links.specs.declared.End.{End}
+use Rattle.links.specs.declared.Links.{Links}
 
 module _ (rs : List Record) (ok : Accepted rs) (ends : List End) (found : (p : ℕ) → p < mostPoints → getD ends p noEnd ≡ endOf rs p) (b : Board) (i : ℕ) (h : i < length rs) (r : Record) (here : getD rs i blank ≡ r) where
   -- where the link to the second point starts, and what is read of a point
@@ -85,6 +88,8 @@ module _ (rs : List Record) (b : Board) (i : ℕ) where
   unfolding firstBroken
   broken-end h = rw (drop-of-length-le rs h)
 
+-- ---- what comes before a verdict
+
 -- a plan whose board is not refused is accepted
 pub ended-accepted : (p : Plan) (b : Board) → endedOf p b .number ≡ 0 → checkOf p .number ≡ 0
 unfolding endedOf
@@ -94,14 +99,33 @@ ended-accepted p b = go (checkOf p) _ (eqb (checkOf p .number) 0) refl
     go x y true f e = eqb-true (x .number) 0 f
     go x y false f e = e
 
--- what comes before a verdict, by its three tests
-abbrev endedAs : Plan → Bool → Bool → Bool → Refusal
-endedAs p k s f = if not k then checkOf p else if not s then refusal 20 0 else if not f then refusal 31 0 else accepted
+-- 20 and 31 by their two tests
+abbrev endedAs : Bool → Bool → Refusal
+endedAs s f = if not s then refusal 20 0 else if not f then refusal 31 0 else accepted
 
-ended-as : (p : Plan) (b : Board) → endedAs p (eqb (checkOf p .number) 0) (sound (recordsOf p) b) (finished (recordsOf p) b) ≡ endedOf p b
-unfolding endedOf
-ended-as p b = refl
+-- whatever the code has for them
+pub ended-as : (l : Links) (b : Board) {x s y f : Bool} → x ≡ soundBy l b → x ≡ s → y ≡ eqb (b .done) (belowOf (l .points)) → y ≡ f → endedAs s f ≡ endedBy l b
+unfolding endedBy
+ended-as l b e g h k = λ i. endedAs ((sym g ∙ e) i) ((sym k ∙ h) i)
 
-pub ended-by : (p : Plan) (b : Board) {k s f : Bool} → eqb (checkOf p .number) 0 ≡ k → sound (recordsOf p) b ≡ s → finished (recordsOf p) b ≡ f
-    → endedAs p k s f ≡ endedOf p b
-ended-by p b e g h = sym (λ i. endedAs p (e i) (g i) (h i)) ∙ ended-as p b
+module _ (p : Plan) (found : Refusal) (e : found ≡ checkOf p) (b : Board) where
+  pub ended-refused : (found .number ≡ 0 → ⊥) → found ≡ endedOf p b
+  unfolding endedOf
+  ended-refused n = rw (← e, ne-eqb (found .number) 0 n)
+
+  -- by the links of an accepted plan
+  pub ended-by : found .number ≡ 0 → (l : Links) → LinksOf (recordsOf p) l → endedBy l b ≡ endedOf p b
+  unfolding endedOf endedBy
+  ended-by z l w =
+      rw (rw e at z, ← (sound-by p (rw e at z) l w b))
+      (λ i. endedAs (soundBy l b) (eqb (b .done) (belowOf (w .points i))))
+
+-- the verdict, by what comes before it
+module _ (p : Plan) (b : Board) (x : Refusal) (e : x ≡ endedOf p b) where
+  pub verdict-refused : (x .number ≡ 0 → ⊥) → Refused (x .number) (x .place) ≡ verdictOf p b
+  unfolding verdictOf
+  verdict-refused n = rw (← e, ne-eqb (x .number) 0 n)
+
+  pub verdict-judged : x .number ≡ 0 → firstBroken (recordsOf p) b 0 (recordsOf p) ≡ verdictOf p b
+  unfolding verdictOf
+  verdict-judged z = rw (← e, z)

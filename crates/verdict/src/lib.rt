@@ -9,7 +9,7 @@ ghost use Rattle.plan.specs.ReplyNumbers.{checkOf};
 ghost use Rattle.links.specs.Inside.{LinksOf};
 ghost use Rattle.verdict.specs.Verdicts.{firstBroken, endedOf, verdictOf};
 ghost use Rattle.verdict.specs.Numbers.{verdictNumber};
-ghost use Rattle.verdict.specs.Inside.{keptAt};
+ghost use Rattle.verdict.specs.Inside.{keptAt, endedBy};
 use board::Board;
 use board::ROOM;
 use board::UNSOUND;
@@ -18,7 +18,7 @@ use board::is_sound_by;
 use bounds::bound_kept;
 use history::used;
 use links::Links;
-use links::links_of;
+use links::links_by;
 use plan::ACCEPTED;
 use plan::ORDINARY;
 use plan::Plan;
@@ -93,18 +93,17 @@ fn first_broken(plan: Plan, board: Board, links: Links) -> Verdict
 pub fn ended(plan: Plan, board: Board) -> Refusal
     ensures { λ r. ⌜ r ≡ endedOf plan board ⌝ }
 {
-    ended_with(plan, board, links_of(plan))
-}
-
-// The same, where the plan's links are known.
-fn ended_with(plan: Plan, board: Board, links: Links) -> Refusal
-    requires { ⌜ LinksOf (recordsOf plan) links ⌝ }
-    ensures { λ r. ⌜ r ≡ endedOf plan board ⌝ }
-{
     let found = check(plan);
     if found.number != ACCEPTED {
         return found;
     }
+    ended_by(board, links_by(plan, true))
+}
+
+// 20, then 31, by the links of an accepted plan.
+fn ended_by(board: Board, links: Links) -> Refusal
+    ensures { λ r. ⌜ r ≡ endedBy links board ⌝ }
+{
     if !is_sound_by(board, links) {
         return Refusal {
             number: UNSOUND,
@@ -128,10 +127,14 @@ pub fn verdict_of(plan: Plan, board: Board) -> Verdict
     ensures verdict { λ v. ⌜ v ≡ verdictOf plan board ⌝ }
     ensures number { λ v. ⌜ verdictNumber v ≡ endedOf plan board .number ⌝ }
 {
-    let links = links_of(plan);
-    let found = ended_with(plan, board, links);
+    let found = check(plan);
     if found.number != ACCEPTED {
         return Verdict::Refused(found.number, found.place);
+    }
+    let links = links_by(plan, true);
+    let end = ended_by(board, links);
+    if end.number != ACCEPTED {
+        return Verdict::Refused(end.number, end.place);
     }
     first_broken(plan, board, links)
 }

@@ -3,6 +3,7 @@ use borrow.Author.Needs.{needs}
 use native.Mathlib.Omega.{arith}
 use mathlib.Core.Path.{_∙_}
 use borrow.Author.Tests.{not-true, not-false}
+use Rattle.links.proofs.Linking.{known}
 use Rattle.board.proofs.Streaming.{all-refused, all-unsound, all-taken}
 use Rattle.board.proofs.Linked.{sound-known}
 use Rattle.board.proofs.Board.take_all.Statement.{statement}
@@ -20,8 +21,8 @@ returns c =
     let w = all-refused (s .plan) (s .self) (s .events .now) (s .room .now) (rw (c .before .before .before .check .ensures) at (c .before .if1 .taken)) in
     ((rw (c .before .before .before .check .ensures) at (c .answer .ensures)) ∙ w .0, w .1)
 
-links-of-requires : tie.Need-links-of-requires
-links-of-requires c κs = search needs
+links-by-requires : tie.Need-links-by-requires
+links-by-requires c κs = known _ _ (c .before .before .check .ensures) (c .if1 .left)
 
 is-sound-by-requires : tie.Need-is-sound-by-requires
 is-sound-by-requires c κs = search needs
@@ -32,7 +33,7 @@ answer-requires-2 c κs = search needs
 returns-2 : tie.Need-returns-2
 returns-2 c =
     let s = c .before .before .before .before .before .before .before .before .before .args in
-    let w = all-unsound (s .plan) (s .self) (s .events .now) (s .room .now) (rw (c .before .before .before .before .before .before .check .ensures) at (c .before .before .before .before .if1 .left)) (sound-known (c .before .before .before .before .before .before .before .before .before .args .plan) (rw (c .before .before .before .before .before .before .check .ensures) at (c .before .before .before .before .if1 .left)) _ (c .before .before .before .links-of .ensures) (c .before .before .before .before .before .before .before .before .before .args .self) _ _ (c .before .before .is-sound-by .ensures) (not-true _ (c .before .if2 .taken))) in
+    let w = all-unsound (s .plan) (s .self) (s .events .now) (s .room .now) (rw (c .before .before .before .before .before .before .check .ensures) at (c .before .before .before .before .if1 .left)) (sound-known (c .before .before .before .before .before .before .before .before .before .args .plan) (rw (c .before .before .before .before .before .before .check .ensures) at (c .before .before .before .before .if1 .left)) _ (c .before .before .before .links-by .ensures) (c .before .before .before .before .before .before .before .before .before .args .self) _ _ (c .before .before .is-sound-by .ensures) (not-true _ (c .before .if2 .taken))) in
     (c .answer2 .ensures ∙ w .0, w .1)
 
 fewer-requires : tie.Need-fewer-requires
@@ -41,7 +42,7 @@ fewer-requires c κs = search needs
 take-each-requires : tie.Need-take-each-requires
 take-each-requires c κs =
     let n = c .before .fewer .ensures in
-    (record { accepted = rw (c .before .before .before .before .before .before .before .check .ensures) at (c .before .before .before .before .before .if1 .left); sound = sound-known (c .before .before .before .before .before .before .before .before .before .before .args .plan) (rw (c .before .before .before .before .before .before .before .check .ensures) at (c .before .before .before .before .before .if1 .left)) _ (c .before .before .before .before .links-of .ensures) (c .before .before .before .before .before .before .before .before .before .before .args .self) _ _ (c .before .before .before .is-sound-by .ensures) (not-false _ (c .before .before .if2 .left)); links = c .before .before .before .before .links-of .ensures }, omega arith, omega arith)
+    (record { accepted = rw (c .before .before .before .before .before .before .before .check .ensures) at (c .before .before .before .before .before .if1 .left); sound = sound-known (c .before .before .before .before .before .before .before .before .before .before .args .plan) (rw (c .before .before .before .before .before .before .before .check .ensures) at (c .before .before .before .before .before .if1 .left)) _ (c .before .before .before .before .links-by .ensures) (c .before .before .before .before .before .before .before .before .before .before .args .self) _ _ (c .before .before .before .is-sound-by .ensures) (not-false _ (c .before .before .if2 .left)); links = c .before .before .before .before .links-by .ensures }, omega arith, omega arith)
 
 answer-requires-3 : tie.Need-answer-requires-3
 answer-requires-3 c κs = search needs
@@ -52,7 +53,7 @@ same-length c = search needs
 returns-3 : tie.Need-returns-3
 returns-3 c =
     let s = c .before .before .before .before .before .before .before .before .before .before .before .before .before .before .args in
-    let w = all-taken (s .plan) (s .self) (s .events .now) (s .room .now) (rw (c .before .before .before .before .before .before .before .before .before .before .before .check .ensures) at (c .before .before .before .before .before .before .before .before .before .if1 .left)) (sound-known (c .before .before .before .before .before .before .before .before .before .before .before .before .before .before .args .plan) (rw (c .before .before .before .before .before .before .before .before .before .before .before .check .ensures) at (c .before .before .before .before .before .before .before .before .before .if1 .left)) _ (c .before .before .before .before .before .before .before .before .links-of .ensures) (c .before .before .before .before .before .before .before .before .before .before .before .before .before .before .args .self) _ _ (c .before .before .before .before .before .before .before .is-sound-by .ensures) (not-false _ (c .before .before .before .before .before .before .if2 .left))) in
+    let w = all-taken (s .plan) (s .self) (s .events .now) (s .room .now) (rw (c .before .before .before .before .before .before .before .before .before .before .before .check .ensures) at (c .before .before .before .before .before .before .before .before .before .if1 .left)) (sound-known (c .before .before .before .before .before .before .before .before .before .before .before .before .before .before .args .plan) (rw (c .before .before .before .before .before .before .before .before .before .before .before .check .ensures) at (c .before .before .before .before .before .before .before .before .before .if1 .left)) _ (c .before .before .before .before .before .before .before .before .links-by .ensures) (c .before .before .before .before .before .before .before .before .before .before .before .before .before .before .args .self) _ _ (c .before .before .before .before .before .before .before .is-sound-by .ensures) (not-false _ (c .before .before .before .before .before .before .if2 .left))) in
     let t = c .before .before .before .take-each .ensures in
     let n = c .before .before .before .before .before .fewer .ensures in
     (rw (t .0, n) at (c .answer3 .ensures) ∙ w .0, rw n at (t .1) ∙ w .1)
@@ -64,7 +65,7 @@ take-all-spec =
     check-requires
     answer-requires
     returns
-    links-of-requires
+    links-by-requires
     is-sound-by-requires
     answer-requires-2
     returns-2

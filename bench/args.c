@@ -1,4 +1,5 @@
-// A program's arguments, as the kit's library `os` asks for them, for machines for which the kit has no such code. For bench/native alone.
+// A program's arguments and the number of the last error, as the kit's library `os` asks for them, for machines for which the kit has no such code. For bench/native alone.
+#include <errno.h>
 #include <stddef.h>
 #include <string.h>
 
@@ -9,6 +10,9 @@ __attribute__((constructor)) static void keep(int n, char **given) {
     count = (size_t)n;
     words = given;
 }
+
+int rattle_errno(void) { return errno; }
+void rattle_set_errno(int error) { errno = error; }
 
 size_t rattle_arg_count(void) { return count; }
 

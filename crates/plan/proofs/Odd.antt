@@ -89,6 +89,17 @@ later m rs (e ∷ es) n = go (eqb (numberWith m (after rs) (e .what) (e .reserve
     go true t n f = rw t (omega (arith, f (rw t at n), length-append rs (e .what ∷ [])))
     go false t n f = rw t (omega arith)
 
+-- what is refused sooner stands, and what is not gives way to 7
+module _ (odd : ℕ) (f : Refusal) where
+  abbrev stays : Bool
+  stays = not (eqb (f .number) 0) && (ltb (f .place) odd || (eqb (f .place) odd && ltb (f .number) 7))
+
+  pub odd-stays : stays ≡ true → f ≡ withOdd odd f
+  odd-stays e = rw e
+
+  pub odd-seven : stays ≡ false → refusal 7 odd ≡ withOdd odd f
+  odd-seven e = rw e
+
 -- byte 3 counts where some is not zero, of n records
 abbrev pub beside : ℕ → ℕ → Refusal → Refusal
 beside n odd f = if eqb odd n then f else withOdd odd f

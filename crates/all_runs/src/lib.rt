@@ -17,7 +17,7 @@ use steps::begin_rooms;
 use tables::SIDE;
 
 // A finishing minute, and the projection that has it.
-#[derive(Drop)]
+#[derive(Clone, Copy)]
 pub struct Found {
     pub minute: u32,
     pub projection: u32,
@@ -62,7 +62,7 @@ pub fn worst_run(sheet: &[u32; SHEET], m: usize, n: u32, links: usize, many: u32
 }
 
 // A reply number, 0 where the events are put, and how many there are.
-#[derive(Drop)]
+#[derive(Clone, Copy)]
 pub struct Put {
     pub number: u32,
     pub events: u32,

@@ -9,7 +9,7 @@ ghost use Rattle.asks.specs.Inside.{is_verb, count_in, typing_in, alone_in, coun
 use values::Seen;
 
 // What is asked; nothing that the desk has a verb for.
-#[derive(Drop)]
+#[derive(Clone, Copy)]
 pub enum Asked {
     Test,
     Worst,
@@ -25,7 +25,7 @@ pub enum Asked {
 }
 
 // Whether a word is a number, and which; 0 where it is none.
-#[derive(Drop)]
+#[derive(Clone, Copy)]
 pub struct Number {
     pub given: bool,
     pub value: u32,

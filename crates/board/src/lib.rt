@@ -21,7 +21,7 @@ pub const UNSOUND: u32 = 20;
 
 // The clock, the set of done points, a minute for each point, and the number of the event that did it, from 1. Points that
 // are not done hold 0.
-#[derive(Drop)]
+#[derive(Clone, Copy)]
 pub struct Board {
     pub clock: u32,
     pub done: u32,
@@ -33,7 +33,7 @@ pub struct Board {
 pub const ROOM: usize = history::ROOM;
 
 // What taking an event answers: a reply number with the record that it is about, and the next board.
-#[derive(Drop)]
+#[derive(Clone, Copy)]
 pub struct Taken {
     pub number: u32,
     pub place: u32,

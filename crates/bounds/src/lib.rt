@@ -6,7 +6,7 @@ ghost use Rattle.bounds.specs.Bounds.{bound_kept, both_in};
 use plan::split;
 
 // The point `to` comes at most `bound` minutes after the point `from`.
-#[derive(Drop)]
+#[derive(Clone, Copy)]
 pub struct Bound {
     pub from: u8,
     pub to: u8,

@@ -29,7 +29,7 @@ pub const MOST_TEXT: usize = 4_278;
 const AROUND: usize = 74;
 
 // What writing a calendar answers: number 0 and the text's length, or a reply number with the record that it is about.
-#[derive(Drop)]
+#[derive(Clone, Copy)]
 pub struct Calendar {
     pub number: u32,
     pub place: u32,

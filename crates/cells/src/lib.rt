@@ -19,7 +19,7 @@ pub const UNREADABLE: u32 = 42;
 pub const NO_CODE: u32 = 43;
 
 // A line's record, or the number that it is refused with.
-#[derive(Drop)]
+#[derive(Clone, Copy)]
 pub enum Line {
     Good(Record),
     Bad(u32),

@@ -14,7 +14,7 @@ pub const LAST_YEAR: u32 = 2099;
 const DAY: u32 = 1440;
 
 // A date, hour and minute; January is month 1 and the first of a month day 1.
-#[derive(Drop)]
+#[derive(Clone, Copy)]
 pub struct Stamp {
     pub year: u32,
     pub month: u32,
@@ -24,7 +24,7 @@ pub struct Stamp {
 }
 
 // Where a day falls: in which year, or month of a year, and how many days of it are before.
-#[derive(Drop)]
+#[derive(Clone, Copy)]
 struct Place {
     part: u32,
     left: u32,

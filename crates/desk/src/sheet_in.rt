@@ -14,7 +14,7 @@ const RECORD: usize = plan::RECORD_BYTES;
 const MANY: usize = plan::MOST_RECORDS + 2;
 
 // The sheet after some records of a chunk, and the first record after those.
-#[derive(Drop)]
+#[derive(Clone, Copy)]
 struct Passed {
     sheet: Sheet,
     past: usize,

@@ -13,7 +13,7 @@ use plan::RECORD_BYTES;
 use points::subset;
 
 // What an event says: its minute, the foreman's point, and the set of watched points.
-#[derive(Drop)]
+#[derive(Clone, Copy)]
 pub struct Event {
     pub minute: u32,
     pub point: u8,

@@ -10,7 +10,7 @@ use rows::{Row, SHEET, index, row_at};
 use tables::SIDE;
 
 // The A and the C of a link, and how long it lasts.
-#[derive(Drop)]
+#[derive(Clone, Copy)]
 pub struct Drive {
     pub from: u64,
     pub to: u64,
@@ -32,7 +32,7 @@ const LINK_ROW: u64 = LINK as u64;
 const MOST_PROJECTIONS: u64 = 4096;
 
 // So many drives; the room after them is zero.
-#[derive(Drop)]
+#[derive(Clone, Copy)]
 pub struct Drives {
     pub count: usize,
     pub list: [Drive; LINKS],

@@ -20,7 +20,7 @@ pub use drives::{Drive, Drives, LINKS};
 pub use reasons::Why;
 
 // What the test answers, and why. Where that is not no, all but the answer is zero.
-#[derive(Drop)]
+#[derive(Clone, Copy)]
 pub struct Explanation {
     pub answer: Answer,
     pub why: Why,

@@ -11,7 +11,7 @@ use tables::{NONE, Part, ROOM, SIDE};
 use ways::{Way, round_of, way};
 
 // The drives; for a pair the shortest length and the best that is allowed; and the steps with their sum.
-#[derive(Drop)]
+#[derive(Clone, Copy)]
 pub struct Why {
     pub drives: Drives,
     pub shortest: Length,

@@ -9,7 +9,7 @@ use std::num::wrapping_add_u64;
 use stream::{append, is_mark};
 
 // The bytes of the plan part so far, how many bytes of the piece were used, and whether the mark was among them.
-#[derive(Drop)]
+#[derive(Clone, Copy)]
 pub struct Part {
     pub length: u64,
     pub used: usize,

@@ -18,7 +18,7 @@ const LF: u8 = 10;
 
 // Where in a field a byte stands: at its beginning, in one without quotes, in one with quotes, and behind a quote that may have
 // closed it.
-#[derive(Drop)]
+#[derive(Clone, Copy)]
 pub enum Place {
     Begin,
     Bare,
@@ -27,7 +27,7 @@ pub enum Place {
 }
 
 // What a byte does: it is one of the field's, it is a quote that is not, it ends the field, or it breaks the quoting.
-#[derive(Drop)]
+#[derive(Clone, Copy)]
 pub enum Act {
     Keep(Place),
     Skip(Place),
@@ -36,7 +36,7 @@ pub enum Act {
 }
 
 // Where a text is: the place in a field, what is known of the field, and whether a CR stands in front of what is next.
-#[derive(Drop)]
+#[derive(Clone, Copy)]
 pub struct Spot {
     pub place: Place,
     pub seen: Seen,
@@ -44,7 +44,7 @@ pub struct Spot {
 }
 
 // A byte further in the field, or how the field stopped.
-#[derive(Drop)]
+#[derive(Clone, Copy)]
 pub enum Step {
     On(Spot),
     Comma,
@@ -201,7 +201,7 @@ impl Spot {
 }
 
 // What stopped a field, where it was then, and the place behind; or the end of the piece.
-#[derive(Drop)]
+#[derive(Clone, Copy)]
 pub struct Walk {
     pub spot: Spot,
     pub step: Step,

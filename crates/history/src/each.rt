@@ -12,7 +12,7 @@ use points::{MOST, has};
 
 // A done link is in its bounds and a running one has not run out; a done link's start is in an earlier event than its end,
 // where the numbers of the events stand in place of the minutes.
-#[derive(Drop)]
+#[derive(Clone, Copy)]
 pub enum Ask {
     InBounds,
     Earlier,

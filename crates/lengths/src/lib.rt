@@ -12,7 +12,7 @@ use rows::{SHEET, fill};
 use tables::{NONE, Part, ROOM, SIDE};
 
 // The length of a walk, `up` less `down`, of which one is 0; or that there is no walk.
-#[derive(Drop)]
+#[derive(Clone, Copy)]
 pub struct Length {
     pub there: bool,
     pub up: u64,

@@ -17,7 +17,7 @@ pub const LIST_ROOM: usize = 4096;
 
 // What judging a list answers: a reply number with the place that it is about, kept, or the place of the first broken
 // bound. Places in the list are counted from 0.
-#[derive(Drop)]
+#[derive(Clone, Copy)]
 pub enum Judged {
     Refused(u32, usize),
     Kept,
@@ -25,7 +25,7 @@ pub enum Judged {
 }
 
 // The answer by the bounds passed so far, and what a bound is judged by: how many points the plan has, and the board.
-#[derive(Drop)]
+#[derive(Clone, Copy)]
 struct Judging {
     answer: Judged,
     points: u32,

@@ -15,7 +15,7 @@ use vee::{Answer, test};
 
 // What is answered: number 0, the lighter plan, how many records were dropped and their numbers in the plan as it came in, in order;
 // or a refusal with its record, a plan without records and no numbers. Room past the last number is 0.
-#[derive(Drop)]
+#[derive(Clone, Copy)]
 pub struct Lighter {
     pub number: u32,
     pub place: u32,

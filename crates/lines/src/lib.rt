@@ -1,6 +1,9 @@
 // A line of text as a value: words and decimal numbers with no leading zeros, single spaces between them, one line feed. It
 // has a length, and room for the longest line, zero past its length. Document 01, "The printing program". An inner room of the
 // crates that print: `line_of` has a `requires`, which every caller is proved to meet.
+
+#![tactic(auto)]
+
 ghost use Rattle.std.specs.Prelude.{◌≡◌, [], ◌∷◌, ◌++◌, ◌+◌, ◌%◌, ◌≤◌, length, take};
 ghost use Rattle.lines.specs.Text.{room, line_of, letters, decimal, piece_text, more_text, text_of};
 ghost use Rattle.lines.specs.Inside.{with, RoomFor, Spelt};
@@ -16,14 +19,14 @@ pub const ROOM: usize = 128;
 // How many pieces are handed on at once.
 const MORE: usize = 4;
 
-#[derive(Drop)]
+#[derive(Clone, Copy)]
 pub struct Line {
     pub len: usize,
     pub bytes: [u8; ROOM],
 }
 
 // A word; a number; so much below zero.
-#[derive(Drop)]
+#[derive(Clone, Copy)]
 pub enum Piece {
     Name(u64),
     Number(u64),
@@ -34,7 +37,7 @@ pub enum Piece {
 const DIGITS: usize = 20;
 
 // The digits of a number, from a place on.
-#[derive(Drop)]
+#[derive(Clone, Copy)]
 struct Digits {
     from: usize,
     digits: [u8; DIGITS],

@@ -23,7 +23,7 @@ pub const NOT_IN_TIME: u32 = 26;
 pub const RUN_OUT: u32 = 27;
 
 // Of the link that ends at a point, its A, its x and its y.
-#[derive(Drop)]
+#[derive(Clone, Copy)]
 pub struct End {
     pub from: u8,
     pub shortest: u32,
@@ -31,7 +31,7 @@ pub struct End {
 }
 
 // The watched points, and the link of each; and how many points the plan has, so that who has the links need not count them.
-#[derive(Drop)]
+#[derive(Clone, Copy)]
 pub struct Links {
     pub points: u32,
     pub watched: u32,

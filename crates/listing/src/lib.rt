@@ -15,7 +15,7 @@ use sayings::{CELLS, Said, Told, row_by};
 pub const A_LONGER_BUFFER: u32 = 8;
 
 // What packing answers: number 0 and how many bytes were written; or what was expected, and the line, counted from 1.
-#[derive(Drop)]
+#[derive(Clone, Copy)]
 pub struct Packed {
     pub number: u32,
     pub line: usize,
@@ -23,7 +23,7 @@ pub struct Packed {
 }
 
 // A line: what it says, or what was expected; and the place behind it.
-#[derive(Drop)]
+#[derive(Clone, Copy)]
 struct Line {
     number: u32,
     said: Said,
@@ -31,7 +31,7 @@ struct Line {
 }
 
 // A text gone over: what was expected and the line, or how many records there are.
-#[derive(Drop)]
+#[derive(Clone, Copy)]
 struct Gone {
     number: u32,
     line: usize,

@@ -40,7 +40,7 @@ pub fn past(x: u32, y: u32) -> u32
 
 // What the records say of each point: which are shut, the number of the first record that keeps each of these shut and 0 for
 // the others, the Lows, and the Highs, 100,000 up.
-#[derive(Drop)]
+#[derive(Clone, Copy)]
 pub struct Tables {
     pub shut: u32,
     pub holders: [u32; ROOM],
@@ -50,7 +50,7 @@ pub struct Tables {
 
 // What one record says: whether it keeps its first point shut, before which minute it keeps that point, and past which
 // minute, 100,000 up, it does not let its second point come.
-#[derive(Drop)]
+#[derive(Clone, Copy)]
 pub struct Said {
     pub shuts: bool,
     pub low: u32,

@@ -14,7 +14,7 @@ pub use plan_part::plan_turn;
 
 // Whether the plan part is over, and then the plan's refusal, or 0; the bytes of the plan part so far; the number of the next event; the
 // plan's links and ponds; how many bytes of the last piece were used; and where its lines end.
-#[derive(Drop)]
+#[derive(Clone, Copy)]
 pub struct Stage {
     pub begun: bool,
     pub number: u32,

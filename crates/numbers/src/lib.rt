@@ -1,12 +1,15 @@
 // Numbers: four bytes little-endian, thirty-two bits as a signed number and back, the tests of signed numbers, and what one
 // adds or takes away. Nothing else in the library touches a signed number. An inner room: it serves our own crates, and
 // `word_at` asks its caller that the four bytes are there.
+
+#![tactic(auto)]
+
 ghost use Rattle.std.specs.Prelude.{◌≡◌, ◌+◌, ◌≤◌, length};
 ghost use Rattle.std.specs.Int.Signed.{le_z, lt_z};
 ghost use Rattle.numbers.specs.Numbers.{word_at, signed_of, bits_of, is_nought, gap_of};
 
 // A signed number as what it adds and what it takes away.
-#[derive(Drop)]
+#[derive(Clone, Copy)]
 pub struct Gap {
     pub up: u32,
     pub down: u32,

@@ -15,7 +15,7 @@ use plan::{ACCEPTED, MOST_RECORDS, Plan, Record, check};
 use records::no_records;
 
 // What importing answers: number 0 and the plan, or a number, the first bad line and a plan without records.
-#[derive(Drop)]
+#[derive(Clone, Copy)]
 pub struct Imported {
     pub number: u32,
     pub line: usize,

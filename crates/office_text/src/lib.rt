@@ -16,7 +16,7 @@ pub const BROKEN_QUOTING: u32 = 40;
 
 // What is known of a text that has come so far: a number and the first bad line, which stand; or number 0, the lines that are whole
 // and their records, and of the line that has begun its commas, its columns and where it is.
-#[derive(Drop)]
+#[derive(Clone, Copy)]
 pub struct Feeding {
     pub number: u32,
     pub lines: usize,

@@ -8,7 +8,7 @@ ghost use Rattle.pairs.specs.Pairs.{Kept, Undercut, InRow, FirstPair};
 use tables::{NONE, ROOM, SIDE};
 
 // A pair of points, or none.
-#[derive(Drop)]
+#[derive(Clone, Copy)]
 pub enum Pair {
     None,
     At(u32, u32),

@@ -31,7 +31,7 @@ const NONE_WORD: u64 = 0x6e6f6e65;
 
 // What is known of a word's bytes so far: all of them; and as points with commas between them, the set of those that have ended,
 // whether each was one and new, and the point that goes by.
-#[derive(Drop)]
+#[derive(Clone, Copy)]
 pub struct Word {
     pub seen: Seen,
     pub set: u32,
@@ -40,7 +40,7 @@ pub struct Word {
 }
 
 // A word and the place of the byte that ends it. It has no bytes where the line has no more words.
-#[derive(Drop)]
+#[derive(Clone, Copy)]
 pub struct Found {
     pub word: Word,
     pub next: usize,

@@ -34,21 +34,21 @@ pub const TOO_LONG: u32 = 3;
 pub const NO_ROOM: u32 = 12;
 
 // A plan is its first `count` records, in file order. What stands in the room after them counts for nothing.
-#[derive(Drop)]
+#[derive(Clone, Copy)]
 pub struct Plan {
     pub count: u32,
     pub records: [Record; MOST_RECORDS],
 }
 
 // A reply number and the record that it is about; number 0 where nothing is refused.
-#[derive(Drop)]
+#[derive(Clone, Copy)]
 pub struct Refusal {
     pub number: u32,
     pub place: u32,
 }
 
 // What reading answers: number 0 and the plan, or a number, the first bad record and a plan without records.
-#[derive(Drop)]
+#[derive(Clone, Copy)]
 pub struct Reading {
     pub number: u32,
     pub place: u32,
@@ -56,7 +56,7 @@ pub struct Reading {
 }
 
 // Where a record is, if it is in the plan.
-#[derive(Drop)]
+#[derive(Clone, Copy)]
 pub enum Found {
     At(u32),
     Nothing,

@@ -1,5 +1,7 @@
 // Sets of points, each a `u32`: point p is in the set s where bit p of s is 1. A point is a `u8`, and one past 31 is in no set.
 // Every function takes any argument, and its contract says in one equation what it replies.
+#![tactic(auto)]
+
 ghost use Rattle.std.specs.Prelude.{◌≡◌};
 ghost use Rattle.points.specs.Sets.{member, with_of, without_of, count_of, first_of, below_of, subset_of};
 

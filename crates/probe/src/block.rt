@@ -7,7 +7,7 @@ use libc::STDIN_FILENO;
 // No further request.
 pub const OVER: u8 = 0;
 
-#[derive(Drop)]
+#[derive(Clone, Copy)]
 pub struct Block {
     pub asked: u8,
     pub p: u8,

@@ -6,7 +6,7 @@ use board::{Board, ROOM};
 use plan::{MOST_RECORDS, Plan, Record};
 use std::num::wrapping_add_u32;
 
-#[derive(Drop)]
+#[derive(Clone, Copy)]
 pub struct Desk {
     pub plan: Plan,
     pub board: Board,

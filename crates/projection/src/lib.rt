@@ -13,7 +13,7 @@ use tables::{Part, ROOM, SIDE};
 mod once;
 
 // What is found of a projection: it is good, it has a cycle, or a first bad pair.
-#[derive(Drop)]
+#[derive(Clone, Copy)]
 pub enum Finding {
     Good,
     Cycle,

@@ -18,7 +18,7 @@ use tables::SIDE;
 pub const LOG: usize = RECORD_BYTES * SIDE;
 
 // The minute of a run's last event, which is the clock of the board on which it ends, and how many events lead there.
-#[derive(Drop)]
+#[derive(Clone, Copy)]
 pub struct Ran {
     pub minute: u32,
     pub events: u32,

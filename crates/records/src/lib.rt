@@ -34,7 +34,7 @@ pub const ORDINARY: u8 = 3;
 pub const WAIT: u8 = 4;
 
 // A record of a plan file, of any of the four kinds: byte 0, bytes 1 and 2, the two numbers, the pond code.
-#[derive(Drop)]
+#[derive(Clone, Copy)]
 pub struct Record {
     pub kind: u8,
     pub a: u8,

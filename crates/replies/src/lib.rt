@@ -17,7 +17,7 @@ use windows::{Windows, windows_of};
 
 // What is said of one point: done at a minute, watched, shut by a record (its number in the plan's file, 0 for none), held, or
 // offered from its Low.
-#[derive(Drop)]
+#[derive(Clone, Copy)]
 pub enum State {
     Done(u32),
     Watched,
@@ -27,13 +27,13 @@ pub enum State {
 }
 
 // A point's place in a reply.
-#[derive(Drop)]
+#[derive(Clone, Copy)]
 pub struct Place {
     pub state: State,
 }
 
 // What a board is.
-#[derive(Drop)]
+#[derive(Clone, Copy)]
 pub enum Outcome {
     Refused(u32, u32),
     Finished,
@@ -43,7 +43,7 @@ pub enum Outcome {
 }
 
 // A reply: only an offer carries a latest minute; an offer, a waiting and a stuck board carry a list.
-#[derive(Drop)]
+#[derive(Clone, Copy)]
 pub struct Reply {
     pub outcome: Outcome,
     pub latest: u32,

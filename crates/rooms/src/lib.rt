@@ -18,7 +18,7 @@ use plan::{ACCEPTED, ORDINARY, Plan, WAIT, check};
 use rows::{SHEET, lay_out};
 
 // The plan's own refusal, or number 0; and the plan's links.
-#[derive(Drop)]
+#[derive(Clone, Copy)]
 pub struct Started {
     pub number: u32,
     pub place: u32,

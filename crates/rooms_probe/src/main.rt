@@ -26,7 +26,7 @@ const ENDS_AT: u32 = 5816;
 const ROWS_AT: u32 = 8138;
 
 // A number of two bytes that is read; `past` where the input has ended.
-#[derive(Drop)]
+#[derive(Clone, Copy)]
 struct Size {
     n: usize,
     past: bool,

@@ -10,7 +10,7 @@ use rows::{Row, SHEET, index, row_at};
 use tables::{FAR, NONE, ROOM, SIDE, lesser};
 
 // The negative edge of a row: where it leaves, where it leads, and how far it is below zero, 0 where the row has none.
-#[derive(Drop)]
+#[derive(Clone, Copy)]
 pub struct Fall {
     pub from: u64,
     pub to: u64,

@@ -13,7 +13,7 @@ use plan::{LINK, Plan, Record, WAIT, split};
 const BYTES: usize = 256;
 
 // A row as the sheet holds it.
-#[derive(Drop)]
+#[derive(Clone, Copy)]
 struct Laid {
     kind: u32,
     from: u32,

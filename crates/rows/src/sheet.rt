@@ -10,7 +10,7 @@ use tables::{Part, ROOM, SIDE, begin, close, offer_of};
 
 // A row has the record's kind, the points that it joins, from and to, its two numbers, and its second point. The sheet holds 32 bits of
 // each, which is all that a record has.
-#[derive(Drop)]
+#[derive(Clone, Copy)]
 pub struct Row {
     pub kind: u64,
     pub from: u64,

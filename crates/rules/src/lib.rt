@@ -39,7 +39,7 @@ pub const OUT_OF_BOUNDS: u32 = 11;
 pub const TWIN: u32 = 15;
 
 // What the records so far have said: the kind of the last, how many of each kind, and which points end a link.
-#[derive(Drop)]
+#[derive(Clone, Copy)]
 pub struct Seen {
     pub kind: u8,
     pub points: u32,
@@ -50,14 +50,14 @@ pub struct Seen {
 }
 
 // Of the link that ends at a point, its A and its y.
-#[derive(Drop)]
+#[derive(Clone, Copy)]
 pub struct Ending {
     pub from: u8,
     pub longest: i32,
 }
 
 // The rules 5 to 11 and 15, each kept or not.
-#[derive(Drop)]
+#[derive(Clone, Copy)]
 pub struct Kept {
     pub order: bool,
     pub room: bool,
@@ -70,7 +70,7 @@ pub struct Kept {
 }
 
 // What the one-record reader answers: what is seen with the record, or the record's number.
-#[derive(Drop)]
+#[derive(Clone, Copy)]
 pub enum One {
     Good(Seen),
     Bad(u32),

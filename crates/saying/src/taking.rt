@@ -15,7 +15,7 @@ use stream::fits;
 pub const MOST: usize = text::ROOM * (ROOM + 3);
 
 // How many bytes of the input were used, where the lines end, and the number of the next event.
-#[derive(Drop)]
+#[derive(Clone, Copy)]
 pub struct Said {
     pub used: usize,
     pub end: usize,

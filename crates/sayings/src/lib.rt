@@ -41,7 +41,7 @@ const MARK: u8 = 5;
 
 // What a line says: nothing where it has no words; a record of a plan; the mark that ends a plan; an event, as its minute, its point
 // and its set.
-#[derive(Drop)]
+#[derive(Clone, Copy)]
 pub enum Said {
     Nothing,
     Plan(Record),
@@ -50,7 +50,7 @@ pub enum Said {
 }
 
 // How many words a line of a kind has, and what is expected of each behind the first; 0 where there is none.
-#[derive(Drop)]
+#[derive(Clone, Copy)]
 struct Places {
     count: usize,
     first: u32,
@@ -60,7 +60,7 @@ struct Places {
 }
 
 // What a line says, or the number of what was expected; 0 where it is good.
-#[derive(Drop)]
+#[derive(Clone, Copy)]
 pub struct Told {
     pub number: u32,
     pub said: Said,

@@ -23,7 +23,7 @@ use tables::SIDE;
 const LINK_ROW: u64 = LINK as u64;
 
 // A minute, and the first point that has it.
-#[derive(Drop)]
+#[derive(Clone, Copy)]
 pub struct Least {
     pub minute: u32,
     pub point: u8,

@@ -27,7 +27,7 @@ const EVENT: u8 = 3;
 
 pub const TAIL: u8 = 4;
 
-#[derive(Drop)]
+#[derive(Clone, Copy)]
 pub struct Sheet {
     pub stage: u8,
     pub news: u8,

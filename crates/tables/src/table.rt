@@ -25,7 +25,7 @@ pub const FAR: u32 = 1207959552;
 const MIDDLE: u64 = BIAS as u64;
 
 // Which edges a table is of.
-#[derive(Drop)]
+#[derive(Clone, Copy)]
 pub enum Part {
     All,
     Falling,

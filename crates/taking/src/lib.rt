@@ -15,7 +15,7 @@ use points::{MOST, first, with, without};
 use windows::Windows;
 
 // The done points, a minute for each point, and the number of the event that did it.
-#[derive(Drop)]
+#[derive(Clone, Copy)]
 pub struct Marks {
     pub done: u32,
     pub minutes: [u32; ROOM],
@@ -23,7 +23,7 @@ pub struct Marks {
 }
 
 // What an event does: a reply number with the record that it is about, the clock and the marks after it.
-#[derive(Drop)]
+#[derive(Clone, Copy)]
 pub struct Step {
     pub number: u32,
     pub place: u32,

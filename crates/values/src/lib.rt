@@ -23,7 +23,7 @@ const TOO_LARGE: u64 = 4294967296;
 
 // What is known of a field's bytes so far: how many (9 for any more), the last eight as a number to the base 256, whether a minus
 // leads, whether all others are digits, and the number that they stand for (any past 32 bits where it is past 32 bits).
-#[derive(Drop)]
+#[derive(Clone, Copy)]
 pub struct Seen {
     pub count: u32,
     pub word: u64,

@@ -11,7 +11,7 @@ mod walk;
 
 // What the test answers: the plan is refused, by number and place; it passes, with the number of projections tried; or
 // the number of the first projection that fails, with a cycle or its first bad pair.
-#[derive(Drop)]
+#[derive(Clone, Copy)]
 pub enum Answer {
     Refused(u32, u32),
     Yes(u32),

@@ -11,7 +11,7 @@ use rows::{Row, SHEET, index, row_at};
 use tables::SIDE;
 
 // A step of a way: the row that it goes by, where it leaves and where it leads, and its length, `up` less `down`.
-#[derive(Drop)]
+#[derive(Clone, Copy)]
 pub struct Step {
     pub row: usize,
     pub from: usize,
@@ -32,7 +32,7 @@ pub const NO_STEP: Step = Step {
 pub const MOST_STEPS: usize = SIDE;
 
 // The steps of a way, so many of them; the room after them is zero.
-#[derive(Drop)]
+#[derive(Clone, Copy)]
 pub struct Way {
     pub count: usize,
     pub steps: [Step; MOST_STEPS],

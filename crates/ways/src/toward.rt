@@ -11,7 +11,7 @@ use tables::{ROOM, SIDE};
 
 // What the search found: the order in which the points were reached, from 1, the way's end, on, and 0 where one was not; and the step by
 // which each goes on.
-#[derive(Drop)]
+#[derive(Clone, Copy)]
 struct Found {
     order: [u32; SIDE],
     next: [Step; SIDE],

@@ -31,7 +31,7 @@ pub const TOO_LATE: u32 = 30;
 
 // The foreman's points that may come, the number of the first record that keeps each point shut and 0 for none, each point's
 // Low, and H, 100,000 up.
-#[derive(Drop)]
+#[derive(Clone, Copy)]
 pub struct Windows {
     pub opens: u32,
     pub holders: [u32; ROOM],

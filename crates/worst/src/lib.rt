@@ -11,14 +11,14 @@ use rows::{SHEET, lay_out};
 use vee::test;
 
 // What is found: a refusal with its record, or the largest finishing minute and the first projection that reaches it.
-#[derive(Drop)]
+#[derive(Clone, Copy)]
 pub enum Worst {
     Refused(u32, u32),
     At(u32, u32),
 }
 
 // A refusal with its record, number 0 where there is none, and how many events a day has.
-#[derive(Drop)]
+#[derive(Clone, Copy)]
 pub struct Day {
     pub number: u32,
     pub place: u32,

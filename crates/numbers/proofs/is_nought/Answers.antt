@@ -8,16 +8,12 @@ use mir.Syntax.{w32}
 use mir.Val.{SFits, of_z}
 use borrow.Author.Tests.{ne_eqb}
 use Rattle.numbers.specs.Numbers.{is_nought}
-use Rattle.numbers.proofs.is_nought.Statement.{statement}
-use Rattle.numbers.proofs.is_nought.Tie as tie
+use Rattle.numbers.proofs.is_nought.Goals as goal
 
 -- the bits are all 0 exactly for 0
 by_bits : (x : ℤ) → SFits w32 x → eqb (of_z w32 x) 0 ≡ is_nought x
 by_bits (pos n) f = refl
 by_bits (negsuc n) f = let h : n < 2 ^ 31 = f.sfits in ne_eqb (2 ^ 32 - suc n) 0 (λ (e : 2 ^ 32 - suc n ≡ 0). omega arith)
 
-returns : tie.Need-returns
+pub returns : goal.returns
 returns c = by_bits c.args.x c.ranges.x
-
-pub is-nought-spec : {M : Type 1} → statement M
-is-nought-spec = tie.close (tie.spec returns)

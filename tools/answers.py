@@ -1,0 +1,306 @@
+#!/usr/bin/env python3
+"""Turns a function's older proof, which named each step by where it stood before the goal, into Invariants.antt and Answers.antt.
+
+usage: tools/answers.py CRATE [FUNCTION ..]     at the top of the repository
+
+It reads proofs/F/Proof.antt and, of `rt check --generated FOLDER --old-names`, which goal and which step has which name today.
+What it can't place it says in a line `left:`. It was used when the repository came to today's Rattle (docs/PORT.md).
+"""
+
+import json
+import os
+import re
+import subprocess
+import sys
+
+WORD = r"[A-Za-z_Λλμ][A-Za-z0-9_'₀-₉]*(?:-[A-Za-z0-9_'₀-₉≢≡≤<+*]+)*"
+
+
+def norm(n):
+    return n.replace("-", "_")
+
+
+def blocks(text):
+    """Top-level declarations: a signature line with the lines below it."""
+    out, now = [], []
+    for line in text.split("\n"):
+        if line.strip() == "":
+            if now:
+                now.append(line)
+            continue
+        head = not line.startswith(" ")
+        if head:
+            starts_new = bool(re.match(r"(pub |abbrev |unfoldable |opaque )*(data |record )?\S+( \([^)]*\))* :( |$)", line)) or line.startswith("--") or line.startswith("use ") or line.startswith("open ")
+            if starts_new and now and not (now[-1].startswith("--") and not line.startswith("use ")):
+                out.append(now)
+                now = []
+        now.append(line)
+    if now:
+        out.append(now)
+    return ["\n".join(b).rstrip() for b in out]
+
+
+class Places:
+    def __init__(self, d):
+        self.d = d
+        self.parent, self.step = {}, {}
+        self.arm = {}
+        for (old, parent, (o, n), callee, _), arm in zip(d["places"], d["arms"]):
+            self.parent[old] = parent
+            self.step[old] = (o, n)
+            self.arm[old] = arm
+        self.args = {}
+        for o, n in d["args"]:
+            a, b = o.split(".")[-1], n.split(".")[-1]
+            if a != b:
+                self.args[a.strip()] = b.strip()
+
+    def up(self, place, n):
+        for _ in range(n):
+            if place is None:
+                return None
+            place = self.parent.get(place)
+        return place
+
+    def in_arm(self, goal, place, field, more):
+        """an arm's own name for a part of an older step: (name, how many projections it takes in)"""
+        seen = []
+        at = goal
+        while at is not None:
+            if self.arm.get(at):
+                seen.append(self.arm[at])
+            at = self.parent.get(at)
+        for arm, _, rows in seen:
+            best = None
+            for new, step, path in rows:
+                if norm(step) == norm(field) and more[: len(path)] == path and not new.endswith("-own"):
+                    if best is None or len(path) > best[1]:
+                        best = (f"{arm}.{new}", len(path))
+            if best:
+                return best
+        return None
+
+    def find(self, place, field):
+        at = place
+        while at is not None:
+            o, n = self.step[at]
+            if o and norm(o) == norm(field):
+                return n
+            at = self.parent.get(at)
+        return None
+
+
+def goal_places(d):
+    """goal's old names (all spellings) -> (new name, place)"""
+    out = {}
+    for (old, new), (place, _) in zip(d["needs"], d["asked_at"]):
+        out.setdefault(norm(old), (new, place))
+    return out
+
+
+KINDS = "overflow|bounds|nonzero|slice_bounds|offset_bounds"
+
+
+def goal_of(need, goals):
+    n = norm(need)
+    if n in goals:
+        return goals[n]
+    m = re.match(r"(?:overflow|nonzero|bounds|slice_bounds|offset_bounds)_(.*)$", n)
+    if m and m.group(1) in goals:
+        return goals[m.group(1)]
+    return None
+
+
+def read(f):
+    with open(f, encoding="utf-8") as it:
+        return it.read()
+
+
+def lets(body):
+    """variables that stand for c itself some steps before"""
+    out = {}
+    for m in re.finditer(r"let (" + WORD + r") = c((?:\.before)*) in", body):
+        out[m.group(1)] = m.group(2).count(".before")
+    return out
+
+
+def paths(body, place, places, left, where):
+    alias = lets(body)
+    for a in alias:
+        body = re.sub(r"let " + re.escape(a) + r" = c(?:\.before)* in\s*", "", body)
+
+    def change(m):
+        name, befores, rest = m.group(1), m.group(2).count(".before"), m.group(3) or ""
+        more = [x for x in (m.group(4) or "").split(".") if x]
+        if name != "c" and name not in alias:
+            return m.group(0)
+        at = places.up(place, befores + alias.get(name, 0))
+        if at is None:
+            left.append(f"{where}: {m.group(0)} goes past the start")
+            return m.group(0)
+        if not rest:
+            if befores or name in alias:
+                left.append(f"{where}: {m.group(0)} alone")
+            return "c"
+        field = rest[1:]
+        if field in ("args", "ranges", "requires", "well_formed", "well-formed", "type_inv"):
+            return "c." + field + "".join("." + places.args.get(x, x) for x in more)
+        arm = places.in_arm(place, at, field, more)
+        if arm:
+            return "c." + arm[0] + "".join("." + x for x in more[arm[1] :])
+        new = places.find(at, field)
+        if new is None:
+            if field in places.args:
+                return "c." + places.args[field] + "".join("." + x for x in more)
+            left.append(f"{where}: {m.group(0)} at {at}")
+            return "c." + field + "".join("." + x for x in more)
+        return "c." + new + "".join("." + x for x in more)
+
+    names = "|".join(re.escape(a) for a in ["c", *alias])
+    return re.sub(r"(?<![\w'.\-])(" + names + r")((?:\.before)*)(\." + WORD + r")?((?:\.(?:" + WORD + r"|\d+))*)(?![\w'₀-₉\-])", change, body)
+
+
+def invariant(sig, body, old, new, vars_, changed, left, where):
+    m = re.match(r"\s*(\S+)((?:\s+\S+)*?)\s*=(?= |\n)(.*)$", body, re.S)
+    params = m.group(2).split()
+    rest = m.group(3)
+    n = len(vars_)
+    to = {}
+    extra = [v for v, ch in zip(vars_, changed) if ch]
+    want = n + len(extra)
+    if len(params) != want:
+        left.append(f"{where}: {old} takes {len(params)}, and {want} were looked for: {params} of {vars_} {changed}")
+    for i, p in enumerate(params):
+        if i < n:
+            to[p] = ("l.initial." if changed[i] else "l.") + vars_[i]
+        elif i - n < len(extra):
+            to[p] = "l." + extra[i - n]
+    to.pop("_", None)
+    names = "|".join(re.escape(p) for p in sorted(to, key=len, reverse=True))
+    if names:
+        rest = re.sub(r"(?<![\w'.\-₀-₉])(" + names + r")(?![\w'\-₀-₉])", lambda m: to[m.group(1)], rest)
+    return rest
+
+
+def convert(crate, name, d):
+    folder = f"crates/{crate}/proofs/{name}"
+    f = f"{folder}/Proof.antt"
+    text = read(f)
+    left = []
+    goals = goal_places(d)
+    places = Places(d)
+    loops = {norm(o): (n, vs, ch) for ((o, n), vs), ch in zip(d["loops"], d["changed"])}
+    comment, uses, inv, ans, helpers = [], [], [], [], []
+    dropped = 0
+    fn = name.split("/")[-1]
+    for b in blocks(text):
+        if b.startswith("use "):
+            uses.append(b)
+            continue
+        lines = b.split("\n")
+        k = 0
+        while k < len(lines) and lines[k].startswith("--"):
+            k += 1
+        head = lines[:k]
+        if k == len(lines):
+            comment.append(b)
+            continue
+        sig = lines[k]
+        i = k + 1
+        mods = []
+        while i < len(lines) and re.match(r"(unfolding|using|opening|irreducible) ", lines[i]):
+            mods.append(lines[i])
+            i += 1
+        body = "\n".join(lines[i:])
+        m = re.match(r"(?:abbrev |unfoldable |pub )*(\S+) : tie\.(\S+)", sig)
+        if re.match(r"pub \S+[-_]spec :", sig):
+            continue
+        if not m:
+            helpers.append(b)
+            continue
+        own, what = m.group(1), m.group(2)
+        where = f"{folder}: {own}"
+        mm = re.match(r"(invariant|decreases|InvT|MeasureT|Inv|μ)-(.*)$", what)
+        if mm:
+            key = norm(mm.group(2))
+            kind = {"InvT": "invariant", "MeasureT": "decreases", "Inv": "invariant", "μ": "decreases"}.get(mm.group(1), mm.group(1))
+            if key not in loops:
+                left.append(f"{where}: no loop {key} among {list(loops)}")
+                helpers.append(b)
+                continue
+            new, vs, ch = loops[key]
+            rest = invariant(sig, body, own, new, vs, ch, left, where)
+            inv.append("\n".join(head + [f"abbrev pub {kind}-{new} : goal.{kind}-{new}", *mods, f"{kind}-{new} l ={rest}"]))
+            continue
+        need = what.replace("Need-", "")
+        g = goal_of(need, goals)
+        if g is None:
+            left.append(f"{where}: no goal for {what}; settled: {d['settled']}")
+            continue
+        new, place = g
+        bm = re.match(r"(\S+)((?:\s+(?!=)\S+)*)\s*=(?= |\n)(.*)$", body, re.S)
+        if not bm:
+            left.append(f"{where}: no body")
+            continue
+        params, rest = bm.group(2).split(), bm.group(3)
+        rest = rest.strip("\n")
+        if rest.strip() in ("search rules", "omega arith") and not mods:
+            dropped += 1
+            continue
+        params = [p for p in params if p not in ("κs",)]
+        if re.search(r"(?<![\w'.])κs(?![\w'])", rest):
+            left.append(f"{where}: κs is used")
+        rest = paths(rest, place, places, left, where).rstrip()
+        for a, b in places.args.items():
+            rest = re.sub(r"(?<=\w)\." + re.escape(a) + r"(?![\w'\-])", "." + b, rest)
+        rest = "\n    " + rest.strip() if "\n" in rest.strip() else " " + rest.strip()
+        ans.append("\n".join(head + [f"pub {new} : goal.{new}", *mods, f"{new} {' '.join(params)} ={rest}"]))
+    uses = [u for u in uses if not re.search(r"\.(Statement\.\{statement\}|Tie as tie)", u)]
+    base = "Rattle." + crate + ".proofs." + name.replace("/", ".")
+    head = "\n".join(comment)
+    if inv:
+        it = "\n".join(uses + [f"use {base}.Given as goal"])
+        with open(f"{folder}/Invariants.antt", "w") as o:
+            o.write((head + "\n" if head else "") + it + "\n\n" + "\n\n".join(inv) + "\n")
+    if ans:
+        it = "\n".join(uses + [f"use {base}.Goals as goal"])
+        with open(f"{folder}/Answers.antt", "w") as o:
+            o.write((head + "\n" if head else "") + it + "\n\n" + "\n\n".join(helpers + ans) + "\n")
+    elif helpers:
+        left.append(f"{folder}: {len(helpers)} lemmas of its own have no answer to stand with")
+    os.makedirs(os.path.dirname(f"/tmp/old/{crate}/{name}/Proof.antt"), exist_ok=True)
+    os.replace(f, f"/tmp/old/{crate}/{name}/Proof.antt")
+    for l in left:
+        print("left:", l)
+    print(f"turned: {folder}: {len(ans)} answers, {dropped} dropped, {len(inv)} for loops")
+
+
+def main(argv):
+    crate, only = argv[0], argv[1:]
+    out = f"/tmp/names/{crate}"
+    os.makedirs(out, exist_ok=True)
+    r = subprocess.run(["rt", "check", "--generated", out, "--old-names"], cwd=f"crates/{crate}", capture_output=True, text=True)
+    try:
+        names = json.load(open(f"{out}/names.json"))
+    except OSError:
+        print(r.stdout[-3000:], r.stderr[-3000:])
+        return 1
+    for top, _, fs in os.walk(f"crates/{crate}/proofs"):
+        if "Proof.antt" not in fs:
+            continue
+        name = os.path.relpath(top, f"crates/{crate}/proofs")
+        if only and name not in only:
+            continue
+        key = f"Rattle-{crate}-proofs.{name.replace('/', '.')}.Lts"
+        if key not in names:
+            print("left:", name, "has no names; keys:", [k for k in names if k.split(".")[-2:-1] == [name.split("/")[-1]]])
+            continue
+        try:
+            convert(crate, name, names[key])
+        except Exception as e:
+            print("left:", name, "failed:", repr(e))
+    return 0
+
+
+if __name__ == "__main__":
+    raise SystemExit(main(sys.argv[1:]))

@@ -5,7 +5,6 @@ ghost use Rattle.plan.specs.Choice.{if◌then◌else◌};
 ghost use Rattle.plan.specs.Limits.{most_points, record_bytes};
 ghost use Rattle.all_runs.specs.Coded.{put, DayAsks, DayAs, WorstAsks, worse_found, FoundOf};
 
-use bytes::copy;
 use choices::chosen;
 use kept::KEPT;
 use neighbours::LIST;
@@ -81,7 +80,7 @@ fn put_events(log: &[u8], events: u32, buffer: &mut [u8]) -> Put
             events: 0,
         };
     }
-    copy(&log[..n], buffer);
+    buffer[..n].copy_from_slice(&log[..n]);
     Put {
         number: ACCEPTED,
         events: events,

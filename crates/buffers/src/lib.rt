@@ -1,10 +1,11 @@
 // Text and numbers into a buffer, from a place on. Each function asks that there is room for it, and answers the place behind it; those of `ending`
 // leave out what has no room. An inner room: it serves `moments`, `calendar` and `stream`.
+
+#![tactic(auto)]
+
 ghost use Rattle.std.specs.Prelude.{◌≡◌, ◌++◌, length};
 ghost use Rattle.lines.specs.Text.{decimal};
 ghost use Rattle.buffers.specs.Inside.{Room, Laid};
-
-use bytes::copy;
 
 mod ending;
 
@@ -18,8 +19,9 @@ pub fn put(out: &mut [u8], at: usize, text: &[u8]) -> usize
     requires { Room out.old at text.now }
     ensures { Laid out.old at text.now out.new result }
 {
-    let n = copy(text, &mut out[at..]);
-    at + n
+    let end = at + text.len();
+    out[at..end].copy_from_slice(text);
+    end
 }
 
 // How many decimal digits a number has.

@@ -1,6 +1,9 @@
 // Dates of the Gregorian calendar: document 02, §10. `is_origin` says what may be given for minute 0, and `shown` what a
 // minute after it shows; specs/Gregorian states both. Open functions ask nothing of a caller; the inner ones ask for
 // years and days that a sheet can reach, so that no sum wraps.
+
+#![tactic(auto)]
+
 ghost use Rattle.std.specs.Prelude.{◌≡◌, ◌+◌, ◌<◌, ◌≤◌};
 ghost use Rattle.dates.specs.Gregorian.{is_origin, shown, leap, days_in};
 ghost use Rattle.dates.specs.Counting.{days_of, before, farthest, Falls};

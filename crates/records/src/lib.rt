@@ -1,12 +1,14 @@
 // Records: the limits of document 01, the record of a plan file with its kinds, and records and their bytes, both ways. An inner
 // room: `plan` hands on what callers need of it, and what reads or writes bytes asks that there are enough of them.
+
+#![tactic(auto)]
+
 ghost use Rattle.std.specs.Prelude.{◌≡◌, ◌++◌, ◌+◌, ◌*◌, ◌≤◌, length, take, drop, replicate};
 ghost use Rattle.std.proofs.Math.Seq.{paste};
 ghost use Rattle.records.specs.Limits.{most_records, record_bytes};
 ghost use Rattle.records.specs.Records.{one, blank};
 ghost use Rattle.records.specs.Bytes.{record_in, bytes_of, all_bytes};
 
-use bytes::copy;
 use numbers::{bits, signed, word_at};
 
 // The limits of document 01.
@@ -98,7 +100,7 @@ pub fn put(out: &mut [u8], at: usize, e: [u8; RECORD_BYTES])
     requires { at + record_bytes ≤ length out.old }
     ensures { out.new ≡ paste out.old at e record_bytes }
 {
-    copy(&e, &mut out[at..]);
+    out[at..at + RECORD_BYTES].copy_from_slice(&e);
 }
 
 // Room for the records of a plan, all of it zero, whatever number is handed in. A record whose fields the compiler knows is written

@@ -1,6 +1,9 @@
 // What the bytes of a field say as a kind word, a point, a number or a pond code: document 02, §1; specs/ states it in that order.
 // What is kept of a field while its bytes go by is a small struct, so no byte is copied. An inner room: it serves `fields` and
 // `office`. Nothing is asked of a caller.
+
+#![tactic(auto)]
+
 ghost use Rattle.std.specs.Prelude.{◌≡◌, ◌+◌, ◌-◌, ◌%◌, ◌≤◌, min};
 ghost use Rattle.values.specs.Values.{is_digit, is_capital};
 ghost use Rattle.values.specs.Inside.{fresh, with, kind_in, decimal_in, point_in, number_in, value_in, shaped_in, code_in, pond_in};

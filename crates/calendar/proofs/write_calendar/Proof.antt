@@ -28,7 +28,7 @@ ponds-of-requires c κs = search rules
 write-by-requires : tie.Need-write-by-requires
 write-by-requires c κs =
     let s = c.before.before.before.before.before.before.before in
-    few_by (record { ok = rw c.before.before.before.before.before.check.ensures at c.before.before.before.if1.false; full = rw length-map at s.well-formed.0.1.1.1.0.1.0.1; links = c.before.before.links-by.ensures; ponds = c.before.ponds-of.ensures })
+    few_by (record { ok = rw c.before.before.before.before.before.check.ensures at c.before.before.before.if1.false; full = rw length-map at s.well_formed.0.1.1.1.0.1.0.1; links = c.before.before.links-by.ensures; ponds = c.before.ponds-of.ensures })
 
 same_length : tie.Need-same-length
 same_length c = search rules
@@ -37,7 +37,7 @@ returns-2 : tie.Need-returns-2
 returns-2 c =
     let s = c.before.before.before.before.before.before.before.before.before.before in
     let k = c.before.before.write-by.ensures in
-    let w : SheetOf s.args.plan _ _ = record { ok = rw c.before.before.before.before.before.before.before.before.check.ensures at c.before.before.before.before.before.before.if1.false; full = rw length-map at s.well-formed.0.1.1.1.0.1.0.1; links = c.before.before.before.before.before.links-by.ensures; ponds = c.before.before.before.before.ponds-of.ensures } in
+    let w : SheetOf s.args.plan _ _ = record { ok = rw c.before.before.before.before.before.before.before.before.check.ensures at c.before.before.before.before.before.before.if1.false; full = rw length-map at s.well_formed.0.1.1.1.0.1.0.1; links = c.before.before.before.before.before.links-by.ensures; ponds = c.before.before.before.before.ponds-of.ensures } in
     (k.reply s.args.plan w, k.bytes s.args.plan w)
 
 pub write-calendar-spec : {M : Type 1} → statement M

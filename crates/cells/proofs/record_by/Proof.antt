@@ -45,7 +45,7 @@ code-requires c κs = search rules
 
 returns : tie.Need-returns
 unfolding record_in
-returns c = rw (to_z-of_z w32 c.before.number2.result (sfits_of c.before.number2.type-inv), to_z-of_z w32 c.before.before.number.result (sfits_of c.before.before.number.type-inv), c.code.ensures, c.before.number2.ensures, c.before.before.number.ensures, c.before.before.before.point2.ensures, c.before.before.before.before.point.ensures, c.before.before.before.before.before.kind.ensures)
+returns c = rw (to_z-of_z w32 c.before.number2.result (sfits_of c.before.number2.type_inv), to_z-of_z w32 c.before.before.number.result (sfits_of c.before.before.number.type_inv), c.code.ensures, c.before.number2.ensures, c.before.before.number.ensures, c.before.before.before.point2.ensures, c.before.before.before.before.point.ensures, c.before.before.before.before.before.kind.ensures)
 
 pub record-by-spec : {M : Type 1} → statement M
 record-by-spec =

@@ -37,28 +37,28 @@ cast-fill : tie.Need-overflow-cast-fill
 cast-fill c = search rules
 
 fill-requires : tie.Need-fill-requires
-fill-requires c κs = fill_ready _ c.before.before.before.before.before.before.before.before.before.before.before.check.ensures c.before.before.before.before.before.before.before.before.before.if1.false c.before.before.before.before.before.before.before.before.has-steps.ensures c.before.before.before.before.before.before.before.if2.false (rw length-map at c.before.before.before.before.before.before.before.before.before.before.before.before.well-formed.0.1.1.1.0.1.0.1) c.before.before.before.before.before.lay-out.ensures c.before.before.before.before.points-of.ensures
+fill-requires c κs = fill_ready _ c.before.before.before.before.before.before.before.before.before.before.before.check.ensures c.before.before.before.before.before.before.before.before.before.if1.false c.before.before.before.before.before.before.before.before.has-steps.ensures c.before.before.before.before.before.before.before.if2.false (rw length-map at c.before.before.before.before.before.before.before.before.before.before.before.before.well_formed.0.1.1.1.0.1.0.1) c.before.before.before.before.before.lay-out.ensures c.before.before.before.before.points-of.ensures
 
 refuse-requires-3 : tie.Need-refuse-requires-3
 refuse-requires-3 c κs = search rules
 
 returns-3 : tie.Need-returns-3
-returns-3 c = close_cycle _ c.before.before.before.before.before.before.before.before.before.before.before.before.before.before.check.ensures c.before.before.before.before.before.before.before.before.before.before.before.before.if1.false c.before.before.before.before.before.before.before.before.before.before.before.has-steps.ensures c.before.before.before.before.before.before.before.before.before.before.if2.false (rw length-map at c.before.before.before.before.before.before.before.before.before.before.before.before.before.before.before.well-formed.0.1.1.1.0.1.0.1) c.before.before.before.before.before.before.before.before.lay-out.ensures c.before.before.before.before.before.before.before.points-of.ensures c.before.before.fill.ensures c.before.if3.true c.refuse3.ensures
+returns-3 c = close_cycle _ c.before.before.before.before.before.before.before.before.before.before.before.before.before.before.check.ensures c.before.before.before.before.before.before.before.before.before.before.before.before.if1.false c.before.before.before.before.before.before.before.before.before.before.before.has-steps.ensures c.before.before.before.before.before.before.before.before.before.before.if2.false (rw length-map at c.before.before.before.before.before.before.before.before.before.before.before.before.before.before.before.well_formed.0.1.1.1.0.1.0.1) c.before.before.before.before.before.before.before.before.lay-out.ensures c.before.before.before.before.before.before.before.points-of.ensures c.before.before.fill.ensures c.before.if3.true c.refuse3.ensures
 
 some-far-requires : tie.Need-some-far-requires
-some-far-requires c κs = few_points _ c.before.before.before.before.before.before.before.before.before.before.before.before.before.before.check.ensures c.before.before.before.before.before.before.before.before.before.before.before.before.if1.false c.before.before.before.before.before.before.before.before.before.before.before.has-steps.ensures c.before.before.before.before.before.before.before.before.before.before.if2.false (rw length-map at c.before.before.before.before.before.before.before.before.before.before.before.before.before.before.before.well-formed.0.1.1.1.0.1.0.1) c.before.before.before.before.before.before.before.before.lay-out.ensures c.before.before.before.before.before.before.before.points-of.ensures
+some-far-requires c κs = few_points _ c.before.before.before.before.before.before.before.before.before.before.before.before.before.before.check.ensures c.before.before.before.before.before.before.before.before.before.before.before.before.if1.false c.before.before.before.before.before.before.before.before.before.before.before.has-steps.ensures c.before.before.before.before.before.before.before.before.before.before.if2.false (rw length-map at c.before.before.before.before.before.before.before.before.before.before.before.before.before.before.before.well_formed.0.1.1.1.0.1.0.1) c.before.before.before.before.before.before.before.before.lay-out.ensures c.before.before.before.before.before.before.before.points-of.ensures
 
 refuse-requires-4 : tie.Need-refuse-requires-4
 refuse-requires-4 c κs = search rules
 
 returns-4 : tie.Need-returns-4
-returns-4 c = close_far _ c.before.before.before.before.before.before.before.before.before.before.before.before.before.before.before.before.before.check.ensures c.before.before.before.before.before.before.before.before.before.before.before.before.before.before.before.if1.false c.before.before.before.before.before.before.before.before.before.before.before.before.before.before.has-steps.ensures c.before.before.before.before.before.before.before.before.before.before.before.before.before.if2.false (rw length-map at c.before.before.before.before.before.before.before.before.before.before.before.before.before.before.before.before.before.before.well-formed.0.1.1.1.0.1.0.1) c.before.before.before.before.before.before.before.before.before.before.before.lay-out.ensures c.before.before.before.before.before.before.before.before.before.before.points-of.ensures c.before.before.before.before.before.fill.ensures c.before.before.before.before.if3.false c.before.before.some-far.ensures c.before.if4.true c.refuse4.ensures
+returns-4 c = close_far _ c.before.before.before.before.before.before.before.before.before.before.before.before.before.before.before.before.before.check.ensures c.before.before.before.before.before.before.before.before.before.before.before.before.before.before.before.if1.false c.before.before.before.before.before.before.before.before.before.before.before.before.before.before.has-steps.ensures c.before.before.before.before.before.before.before.before.before.before.before.before.before.if2.false (rw length-map at c.before.before.before.before.before.before.before.before.before.before.before.before.before.before.before.before.before.before.well_formed.0.1.1.1.0.1.0.1) c.before.before.before.before.before.before.before.before.before.before.before.lay-out.ensures c.before.before.before.before.before.before.before.before.before.before.points-of.ensures c.before.before.before.before.before.fill.ensures c.before.before.before.before.if3.false c.before.before.some-far.ensures c.before.if4.true c.refuse4.ensures
 
 made-plan-requires : tie.Need-made-plan-requires
-made-plan-requires c κs = points_ready _ c.before.before.before.before.before.before.before.before.before.before.before.before.before.before.before.before.before.check.ensures c.before.before.before.before.before.before.before.before.before.before.before.before.before.before.before.if1.false c.before.before.before.before.before.before.before.before.before.before.before.before.before.before.has-steps.ensures c.before.before.before.before.before.before.before.before.before.before.before.before.before.if2.false (rw length-map at c.before.before.before.before.before.before.before.before.before.before.before.before.before.before.before.before.before.before.well-formed.0.1.1.1.0.1.0.1) c.before.before.before.before.before.before.before.before.before.before.before.lay-out.ensures c.before.before.before.before.before.before.before.before.before.before.points-of.ensures
+made-plan-requires c κs = points_ready _ c.before.before.before.before.before.before.before.before.before.before.before.before.before.before.before.before.before.check.ensures c.before.before.before.before.before.before.before.before.before.before.before.before.before.before.before.if1.false c.before.before.before.before.before.before.before.before.before.before.before.before.before.before.has-steps.ensures c.before.before.before.before.before.before.before.before.before.before.before.before.before.if2.false (rw length-map at c.before.before.before.before.before.before.before.before.before.before.before.before.before.before.before.before.before.before.well_formed.0.1.1.1.0.1.0.1) c.before.before.before.before.before.before.before.before.before.before.before.lay-out.ensures c.before.before.before.before.before.before.before.before.before.before.points-of.ensures
 
 returns-5 : tie.Need-returns-5
-returns-5 c = close_made _ c.before.before.before.before.before.before.before.before.before.before.before.before.before.before.before.before.before.before.check.ensures c.before.before.before.before.before.before.before.before.before.before.before.before.before.before.before.before.if1.false c.before.before.before.before.before.before.before.before.before.before.before.before.before.before.before.has-steps.ensures c.before.before.before.before.before.before.before.before.before.before.before.before.before.before.if2.false (rw length-map at c.before.before.before.before.before.before.before.before.before.before.before.before.before.before.before.before.before.before.before.well-formed.0.1.1.1.0.1.0.1) c.before.before.before.before.before.before.before.before.before.before.before.before.lay-out.ensures c.before.before.before.before.before.before.before.before.before.before.before.points-of.ensures c.before.before.before.before.before.before.fill.ensures c.before.before.before.before.before.if3.false c.before.before.before.some-far.ensures c.before.before.if4.false c.made-plan.ensures
+returns-5 c = close_made _ c.before.before.before.before.before.before.before.before.before.before.before.before.before.before.before.before.before.before.check.ensures c.before.before.before.before.before.before.before.before.before.before.before.before.before.before.before.before.if1.false c.before.before.before.before.before.before.before.before.before.before.before.before.before.before.before.has-steps.ensures c.before.before.before.before.before.before.before.before.before.before.before.before.before.before.if2.false (rw length-map at c.before.before.before.before.before.before.before.before.before.before.before.before.before.before.before.before.before.before.before.well_formed.0.1.1.1.0.1.0.1) c.before.before.before.before.before.before.before.before.before.before.before.before.lay-out.ensures c.before.before.before.before.before.before.before.before.before.before.before.points-of.ensures c.before.before.before.before.before.before.fill.ensures c.before.before.before.before.before.if3.false c.before.before.before.some-far.ensures c.before.before.if4.false c.made-plan.ensures
 
 pub close_spec : {M : Type 1} → statement M
 close_spec =

@@ -19,7 +19,7 @@ cast-count : tie.Need-overflow-cast-count invariant-loop decreases-loop
 cast-count c = search rules
 
 loop-holds : tie.Need-loop-init invariant-loop decreases-loop
-loop-holds c = (rw length-map at c.well-formed.0.1.1.1.0.1.0.1, refl, omega arith, looked_none c.args.t1)
+loop-holds c = (rw length-map at c.well_formed.0.1.1.1.0.1.0.1, refl, omega arith, looked_none c.args.t1)
 
 mul-r : tie.Need-overflow-mul-r invariant-loop decreases-loop
 mul-r c = omega arith

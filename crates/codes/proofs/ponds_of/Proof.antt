@@ -17,7 +17,7 @@ abbrev decreases-loop : tie.decreases-loop
 decreases-loop plan ponds₀ i₀ ponds i = most_points - i
 
 loop-holds : tie.Need-loop-init invariant-loop decreases-loop
-loop-holds c = (omega arith, rw length-map at c.well-formed.0.1.1.1.0.1.0.1, filled_none _ _ 0)
+loop-holds c = (omega arith, rw length-map at c.well_formed.0.1.1.1.0.1.0.1, filled_none _ _ 0)
 
 mul-r : tie.Need-overflow-mul-r invariant-loop decreases-loop
 mul-r c = search rules

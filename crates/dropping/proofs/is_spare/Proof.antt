@@ -42,10 +42,10 @@ cast-all-fit-3 : tie.Need-overflow-cast-all-fit-3
 cast-all-fit-3 c = search rules
 
 all-fit-requires : tie.Need-all-fit-requires
-all-fit-requires c κs = spare_all c.before.before.before.before.before.before.before.before.before.before.before.before.before.requires (omega (arith, c.before.before.before.before.before.before.before.before.before.before.before.if1.false)) (rw length-map at c.before.before.before.before.before.before.before.before.before.before.before.before.before.well-formed.1.0.1.1.1.0.1.0.1) c.before.before.before.before.before.before.before.before.before.lay-out.ensures c.before.before.before.before.before.before.before.before.points-of.ensures c.before.before.before.before.before.before.before.links-of.ensures (rw (to_z-of_z w32 _ (sfits_of c.before.before.before.before.before.before.struct_told.given.1.1.1.0.1)) at c.before.before.before.before.before.split.ensures) _ c.before.before.before.before.bound.ensures
+all-fit-requires c κs = spare_all c.before.before.before.before.before.before.before.before.before.before.before.before.before.requires (omega (arith, c.before.before.before.before.before.before.before.before.before.before.before.if1.false)) (rw length-map at c.before.before.before.before.before.before.before.before.before.before.before.before.before.well_formed.1.0.1.1.1.0.1.0.1) c.before.before.before.before.before.before.before.before.before.lay-out.ensures c.before.before.before.before.before.before.before.before.points-of.ensures c.before.before.before.before.before.before.before.links-of.ensures (rw (to_z-of_z w32 _ (sfits_of c.before.before.before.before.before.before.struct_told.given.1.1.1.0.1)) at c.before.before.before.before.before.split.ensures) _ c.before.before.before.before.bound.ensures
 
 returns-2 : tie.Need-returns-2
-returns-2 c = spare_found c.before.before.before.before.before.before.before.before.before.before.before.before.before.before.requires (omega (arith, c.before.before.before.before.before.before.before.before.before.before.before.before.if1.false)) (rw length-map at c.before.before.before.before.before.before.before.before.before.before.before.before.before.before.well-formed.1.0.1.1.1.0.1.0.1) c.before.before.before.before.before.before.before.before.before.before.lay-out.ensures c.before.before.before.before.before.before.before.before.before.points-of.ensures c.before.before.before.before.before.before.before.before.links-of.ensures (rw (to_z-of_z w32 _ (sfits_of c.before.before.before.before.before.before.before.struct_told.given.1.1.1.0.1)) at c.before.before.before.before.before.before.split.ensures) _ c.before.before.before.before.before.bound.ensures c.all_fit.ensures
+returns-2 c = spare_found c.before.before.before.before.before.before.before.before.before.before.before.before.before.before.requires (omega (arith, c.before.before.before.before.before.before.before.before.before.before.before.before.if1.false)) (rw length-map at c.before.before.before.before.before.before.before.before.before.before.before.before.before.before.well_formed.1.0.1.1.1.0.1.0.1) c.before.before.before.before.before.before.before.before.before.before.lay-out.ensures c.before.before.before.before.before.before.before.before.before.points-of.ensures c.before.before.before.before.before.before.before.before.links-of.ensures (rw (to_z-of_z w32 _ (sfits_of c.before.before.before.before.before.before.before.struct_told.given.1.1.1.0.1)) at c.before.before.before.before.before.before.split.ensures) _ c.before.before.before.before.before.bound.ensures c.all_fit.ensures
 
 pub is-spare-spec : {M : Type 1} → statement M
 is-spare-spec =

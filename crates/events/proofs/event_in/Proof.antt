@@ -14,7 +14,7 @@ word-at-requires-2 : tie.Need-word-at-requires-2
 word-at-requires-2 c κs = search rules
 
 returns : tie.Need-returns
-returns c = (rw (c.word-at2.ensures, c.before.before.word_at.ensures), omega (arith, c.word-at2.type-inv, c.word-at2.ensures))
+returns c = (rw (c.word-at2.ensures, c.before.before.word_at.ensures), omega (arith, c.word-at2.type_inv, c.word-at2.ensures))
 
 pub event-in-spec : {M : Type 1} → statement M
 event-in-spec =

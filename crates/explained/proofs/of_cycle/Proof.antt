@@ -25,16 +25,16 @@ add-durations-of : tie.Need-overflow-add-durations-of
 add-durations-of c = search rules
 
 durations-of-requires : tie.Need-durations-of-requires
-durations-of-requires c κs = let f = fails_by_cycle c.before.before.before.before.before.requires in plan_durations _ f.ok f.few (rw length-map at c.before.before.before.before.before.well-formed.0.1.1.1.0.1.0.1) c.before.before.before.lay-out.ensures c.before.before.points-of.ensures c.before.links-of.ensures f.one
+durations-of-requires c κs = let f = fails_by_cycle c.before.before.before.before.before.requires in plan_durations _ f.ok f.few (rw length-map at c.before.before.before.before.before.well_formed.0.1.1.1.0.1.0.1) c.before.before.before.lay-out.ensures c.before.before.points-of.ensures c.before.links-of.ensures f.one
 
 cast-round-in : tie.Need-overflow-cast-round-in
 cast-round-in c = search rules
 
 round-in-requires : tie.Need-round-in-requires
-round-in-requires c κs = let f = fails_by_cycle c.before.before.before.before.before.before.before.before.before.requires in plan_round _ f.ok f.few (rw length-map at c.before.before.before.before.before.before.before.before.before.well-formed.0.1.1.1.0.1.0.1) c.before.before.before.before.before.before.before.lay-out.ensures c.before.before.before.before.before.before.points-of.ensures c.before.before.before.before.before.links-of.ensures f.one c.before.before.before.durations-of.ensures f.holds
+round-in-requires c κs = let f = fails_by_cycle c.before.before.before.before.before.before.before.before.before.requires in plan_round _ f.ok f.few (rw length-map at c.before.before.before.before.before.before.before.before.before.well_formed.0.1.1.1.0.1.0.1) c.before.before.before.before.before.before.before.lay-out.ensures c.before.before.before.before.before.before.points-of.ensures c.before.before.before.before.before.links-of.ensures f.one c.before.before.before.durations-of.ensures f.holds
 
 returns : tie.Need-returns
-returns c = let f = fails_by_cycle c.before.before.before.before.before.before.before.before.before.before.requires in plan_rounded _ f.ok f.few (rw length-map at c.before.before.before.before.before.before.before.before.before.before.well-formed.0.1.1.1.0.1.0.1) c.before.before.before.before.before.before.before.before.lay-out.ensures c.before.before.before.before.before.before.before.points-of.ensures c.before.before.before.before.before.before.links-of.ensures f.one c.before.before.before.before.durations-of.ensures c.before.before.before.before.before.before.before.before.before.before.requires c.round-in.ensures
+returns c = let f = fails_by_cycle c.before.before.before.before.before.before.before.before.before.before.requires in plan_rounded _ f.ok f.few (rw length-map at c.before.before.before.before.before.before.before.before.before.before.well_formed.0.1.1.1.0.1.0.1) c.before.before.before.before.before.before.before.before.lay-out.ensures c.before.before.before.before.before.before.before.points-of.ensures c.before.before.before.before.before.before.links-of.ensures f.one c.before.before.before.before.durations-of.ensures c.before.before.before.before.before.before.before.before.before.before.requires c.round-in.ensures
 
 pub of-cycle-spec : {M : Type 1} → statement M
 of-cycle-spec =

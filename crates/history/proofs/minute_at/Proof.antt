@@ -17,7 +17,7 @@ returns c = search rules
 
 returns-2 : tie.Need-returns-2
 returns-2 c =
-    let n = c.before.well-formed.0.1.0.1 in
+    let n = c.before.well_formed.0.1.0.1 in
     sym (get_or-eq_default c.before.args.t1 0 {n = c.before.args.p} (omega arith))
 
 pub minute-at-spec : {M : Type 1} → statement M

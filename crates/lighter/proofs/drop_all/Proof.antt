@@ -19,10 +19,10 @@ cast-total : tie.Need-overflow-cast-total invariant-loop decreases-loop
 cast-total c = search rules
 
 without-requires : tie.Need-without-requires invariant-loop decreases-loop
-without-requires c κs = start_few (rw length-map at c.before.well-formed.0.1.1.1.0.1.0.1) c.before.requires
+without-requires c κs = start_few (rw length-map at c.before.well_formed.0.1.1.1.0.1.0.1) c.before.requires
 
 loop-holds : tie.Need-loop-init invariant-loop decreases-loop
-loop-holds c = let e = c.without.ensures in (sym (start_many (rw length-map at c.before.before.well-formed.0.1.1.1.0.1.0.1) c.before.before.requires e), going_start (rw length-map at c.before.before.well-formed.0.1.1.1.0.1.0.1) c.before.before.requires e)
+loop-holds c = let e = c.without.ensures in (sym (start_many (rw length-map at c.before.before.well_formed.0.1.1.1.0.1.0.1) c.before.before.requires e), going_start (rw length-map at c.before.before.well_formed.0.1.1.1.0.1.0.1) c.before.before.requires e)
 
 sub_at : tie.Need-overflow-sub-at invariant-loop decreases-loop
 sub_at c = let v = c.before.loop.invariant in omega (arith, v.0, v.1.kept_many, v.1.few, going_room v.1, c.loop-test.true)
@@ -76,7 +76,7 @@ cast-t24 : tie.Need-overflow-cast-t24 invariant-loop decreases-loop
 cast-t24 c = let v = c.before.loop.invariant in omega (arith, v.1.kept_many, v.1.few, v.1.within)
 
 returns : tie.Need-returns invariant-loop decreases-loop
-returns c = let v = c.before.loop.invariant in let e = going_end v.1 (omega (arith, v.0, c.loop-test.false)) refl in going_dropped (rw length-map at c.before.before.before.before.well-formed.0.1.1.1.0.1.0.1) c.before.before.before.before.requires c.before.before.without.ensures e.0 e.1
+returns c = let v = c.before.loop.invariant in let e = going_end v.1 (omega (arith, v.0, c.loop-test.false)) refl in going_dropped (rw length-map at c.before.before.before.before.well_formed.0.1.1.1.0.1.0.1) c.before.before.before.before.requires c.before.before.without.ensures e.0 e.1
 
 pub drop-all-spec : {M : Type 1} → statement M
 drop-all-spec =

@@ -29,7 +29,7 @@ no-records-requires : tie.Need-no-records-requires invariant-loop decreases-loop
 no-records-requires c κs = search rules
 
 loop-holds : tie.Need-loop-init invariant-loop decreases-loop
-loop-holds c = copied_none (rw length-map at c.before.before.well-formed.0.1.1.1.0.1.0.1) c.before.before.requires (rw c.before.one-if.ensures.0) c.no-records.ensures
+loop-holds c = copied_none (rw length-map at c.before.before.well_formed.0.1.1.1.0.1.0.1) c.before.before.requires (rw c.before.one-if.ensures.0) c.no-records.ensures
 
 one-if-requires-2 : tie.Need-one-if-requires-2 invariant-loop decreases-loop
 one-if-requires-2 c κs = search rules

@@ -23,7 +23,7 @@ array-write-room-2 : tie.Need-array-write-room-2 invariant-loop decreases-loop
 array-write-room-2 c = search rules
 
 loop-holds : tie.Need-loop-init invariant-loop decreases-loop
-loop-holds c = (omega arith, rw length-map at c.before.well-formed.0.1.1.1.1.0.1.0.1, refl, put_start _ _ _ _ _ refl)
+loop-holds c = (omega arith, rw length-map at c.before.well_formed.0.1.1.1.1.0.1.0.1, refl, put_start _ _ _ _ _ refl)
 
 mul-e : tie.Need-overflow-mul-e invariant-loop decreases-loop
 mul-e c = search rules

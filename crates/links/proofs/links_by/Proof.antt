@@ -26,7 +26,7 @@ used-requires c κs = search rules
 
 loop-holds : tie.Need-loop-init invariant-loop decreases-loop
 loop-holds c =
-    let g = c.before.well-formed in
+    let g = c.before.well_formed in
     (omega arith, c.used.ensures, rw length-map at g.0.1.1.1.0.1.0.1, omega arith, links_none)
 
 mul-r : tie.Need-overflow-mul-r invariant-loop decreases-loop

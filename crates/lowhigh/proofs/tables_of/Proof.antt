@@ -30,8 +30,8 @@ loop-holds c =
     let s = c.before in (
       omega arith,
       c.used.ensures,
-      rw length-map at s.well-formed.0.1.1.1.0.1.0.1,
-      s.well-formed.1.1.1.1.0.1.0.1,
+      rw length-map at s.well_formed.0.1.1.1.0.1.0.1,
+      s.well_formed.1.1.1.1.0.1.0.1,
       s.requires.links.long,
       refl,
       refl,

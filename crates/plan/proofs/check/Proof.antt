@@ -41,7 +41,7 @@ none-requires c κs = search rules
 loop-holds : tie.Need-loop-init invariant-loop decreases-loop
 loop-holds c =
     let s = c.before.before.before in
-    (omega arith, refl, omega arith, rw length-map at s.well-formed.0.1.1.1.0.1.0.1, rw c.none.ensures (sofar_start _))
+    (omega arith, refl, omega arith, rw length-map at s.well_formed.0.1.1.1.0.1.0.1, rw c.none.ensures (sofar_start _))
 
 mul-r : tie.Need-overflow-mul-r invariant-loop decreases-loop
 mul-r c = search rules

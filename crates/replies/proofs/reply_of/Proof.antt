@@ -52,7 +52,7 @@ windows-of-requires : tie.Need-windows-of-requires
 windows-of-requires c κs =
     let s = c.before.before.before.before.before.before.before.before.before in
     let a = s.args in
-    given a.plan a.board _ (omega (arith, s.well-formed.1.0.1.1.1.0.1)) (ready_known a.plan _ c.before.before.before.before.before.before.before.before.check.ensures c.before.before.before.before.before.before.if1.false _ c.before.before.before.before.before.links-by.ensures a.board _ c.before.before.before.before.is-sound-by.ensures (not-false _ c.before.before.before.if2.false))
+    given a.plan a.board _ (omega (arith, s.well_formed.1.0.1.1.1.0.1)) (ready_known a.plan _ c.before.before.before.before.before.before.before.before.check.ensures c.before.before.before.before.before.before.if1.false _ c.before.before.before.before.before.links-by.ensures a.board _ c.before.before.before.before.is-sound-by.ensures (not-false _ c.before.before.before.if2.false))
 
 reply-from-requires : tie.Need-reply-from-requires
 reply-from-requires c κs = search rules

@@ -18,7 +18,7 @@ returns : tie.Need-returns
 returns c =
     let s = c.before.before.before.before.before.before.before.before.before in
     let l = c.list.ensures in
-    filled_by _ _ _ _ _ _ s.requires (rw length-map at s.well-formed.0.1.1.1.0.1.0.1) c.before.before.before.before.before.before.before.lay-out.ensures l.0 l.1.0 l.1.1.0 l.1.1.1
+    filled_by _ _ _ _ _ _ s.requires (rw length-map at s.well_formed.0.1.1.1.0.1.0.1) c.before.before.before.before.before.before.before.lay-out.ensures l.0 l.1.0 l.1.1.0 l.1.1.1
 
 pub fill_spec : {M : Type 1} → statement M
 fill_spec = tie.close (tie.spec lay-out-requires cast-list list-requires returns)

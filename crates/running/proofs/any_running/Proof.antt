@@ -24,7 +24,7 @@ abbrev decreases-loop : tie.decreases-loop
 decreases-loop done links rest₀ rest = count_of rest
 
 loop-holds : tie.Need-loop-init invariant-loop decreases-loop
-loop-holds c = (omega (arith, c.well-formed.0.1.1.1.0.1), refl)
+loop-holds c = (omega (arith, c.well_formed.0.1.1.1.0.1), refl)
 
 first-requires : tie.Need-first-requires invariant-loop decreases-loop
 first-requires c κs = search rules

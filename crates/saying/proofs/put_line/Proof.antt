@@ -15,7 +15,7 @@ same_length : tie.Need-same-length
 same_length c = search rules
 
 returns : tie.Need-returns
-returns c = made_line _ _ c.before.before.before.before.before.args.at c.before.before.before.before.before.args.line (rw length-map at c.before.before.before.before.before.well-formed.1.1.0.1.1.1.0.1.0.1) c.before.before.before.before.before.requires c.before.before.behind.ensures.0 c.before.before.behind.ensures.1
+returns c = made_line _ _ c.before.before.before.before.before.args.at c.before.before.before.before.before.args.line (rw length-map at c.before.before.before.before.before.well_formed.1.1.0.1.1.1.0.1.0.1) c.before.before.before.before.before.requires c.before.before.behind.ensures.0 c.before.before.behind.ensures.1
 
 pub put-line-spec : {M : Type 1} → statement M
 put-line-spec = tie.close (tie.spec behind-requires same_length returns)

@@ -33,8 +33,8 @@ returns : tie.Need-returns
 returns c =
     let n = c.before in
     rw (
-      to_z-of_z w32 c.number-in2.result (sfits_of c.number-in2.type-inv),
-      to_z-of_z w32 n.number-in.result (sfits_of n.number-in.type-inv),
+      to_z-of_z w32 c.number-in2.result (sfits_of c.number-in2.type_inv),
+      to_z-of_z w32 n.number-in.result (sfits_of n.number-in.type_inv),
       c.number-in2.ensures,
       n.number-in.ensures,
       n.before.point-in2.ensures,

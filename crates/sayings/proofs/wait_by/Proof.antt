@@ -24,7 +24,7 @@ number-in-requires : tie.Need-number-in-requires
 number-in-requires c κs = search rules
 
 returns : tie.Need-returns
-returns c = rw (to_z-of_z w32 c.number-in.result (sfits_of c.number-in.type-inv), c.number-in.ensures, c.before.point-in2.ensures, c.before.before.point-in.ensures)
+returns c = rw (to_z-of_z w32 c.number-in.result (sfits_of c.number-in.type_inv), c.number-in.ensures, c.before.point-in2.ensures, c.before.before.point-in.ensures)
 
 pub wait-by-spec : {M : Type 1} → statement M
 wait-by-spec =

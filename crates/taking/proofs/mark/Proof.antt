@@ -26,7 +26,7 @@ returns c = rw c.with.ensures
 
 returns-2 : tie.Need-returns-2
 returns-2 c =
-    let g = c.before.well-formed.0.1.1.1 in
+    let g = c.before.well_formed.0.1.1.1 in
     let n = rw length-map at g.0.1.0.1 in
     let m = rw length-map at g.1.0.1.0.1 in
     mark_past _ _ c.before.args.p c.before.args.marks (omega arith) (omega arith) c.if1.false

@@ -24,7 +24,7 @@ decreases-loop set t n minutes₀ calls₀ done₀ rest₀ minutes calls done re
 loop-holds : tie.Need-loop-init invariant-loop decreases-loop
 loop-holds c =
     let s = c.before.before in
-    let g = s.well-formed.0.1.1.1 in
+    let g = s.well_formed.0.1.1.1 in
     (s.ranges.set.fits, rw length-map at g.0.1.0.1, rw length-map at g.1.0.1.0.1, refl)
 
 first-requires : tie.Need-first-requires invariant-loop decreases-loop

@@ -29,22 +29,22 @@ cast-links : tie.Need-overflow-cast-links
 cast-links c = search rules
 
 add-past : tie.Need-overflow-add-past
-add-past c = omega (arith, (rows_ready _ c.before.before.before.before.before.before.check.ensures c.before.before.before.before.if1.false (rw length-map at c.before.before.before.before.before.before.before.well-formed.0.1.1.1.0.1.0.1) c.before.before.lay-out.ensures c.before.points-of.ensures c.links-of.ensures).rows)
+add-past c = omega (arith, (rows_ready _ c.before.before.before.before.before.before.check.ensures c.before.before.before.before.if1.false (rw length-map at c.before.before.before.before.before.before.before.well_formed.0.1.1.1.0.1.0.1) c.before.before.lay-out.ensures c.before.points-of.ensures c.links-of.ensures).rows)
 
 projections-requires : tie.Need-projections-requires
-projections-requires c κs = rows_ready _ c.before.before.before.before.before.before.before.check.ensures c.before.before.before.before.before.if1.false (rw length-map at c.before.before.before.before.before.before.before.before.well-formed.0.1.1.1.0.1.0.1) c.before.before.before.lay-out.ensures c.before.before.points-of.ensures c.before.links-of.ensures
+projections-requires c κs = rows_ready _ c.before.before.before.before.before.before.before.check.ensures c.before.before.before.before.before.if1.false (rw length-map at c.before.before.before.before.before.before.before.before.well_formed.0.1.1.1.0.1.0.1) c.before.before.before.lay-out.ensures c.before.before.points-of.ensures c.before.links-of.ensures
 
 returns-2 : tie.Need-returns-2
-returns-2 c = test_numbered (too_many_plan _ c.before.before.before.before.before.before.before.before.before.check.ensures c.before.before.before.before.before.before.before.if1.false (rw length-map at c.before.before.before.before.before.before.before.before.before.before.well-formed.0.1.1.1.0.1.0.1) c.before.before.before.before.before.lay-out.ensures c.before.before.before.before.points-of.ensures c.before.before.before.links-of.ensures c.before.projections.ensures c.if2.true)
+returns-2 c = test_numbered (too_many_plan _ c.before.before.before.before.before.before.before.before.before.check.ensures c.before.before.before.before.before.before.before.if1.false (rw length-map at c.before.before.before.before.before.before.before.before.before.before.well_formed.0.1.1.1.0.1.0.1) c.before.before.before.before.before.lay-out.ensures c.before.before.before.before.points-of.ensures c.before.before.before.links-of.ensures c.before.projections.ensures c.if2.true)
 
 cast-walk-all : tie.Need-overflow-cast-walk-all
 cast-walk-all c = search rules
 
 walk-all-requires : tie.Need-walk-all-requires
-walk-all-requires c κs = walk_ready _ c.before.before.before.before.before.before.before.before.before.before.before.check.ensures c.before.before.before.before.before.before.before.before.before.if1.false (rw length-map at c.before.before.before.before.before.before.before.before.before.before.before.before.well-formed.0.1.1.1.0.1.0.1) c.before.before.before.before.before.before.before.lay-out.ensures c.before.before.before.before.before.before.points-of.ensures c.before.before.before.before.before.links-of.ensures c.before.before.before.projections.ensures c.before.before.if2.false
+walk-all-requires c κs = walk_ready _ c.before.before.before.before.before.before.before.before.before.before.before.check.ensures c.before.before.before.before.before.before.before.before.before.if1.false (rw length-map at c.before.before.before.before.before.before.before.before.before.before.before.before.well_formed.0.1.1.1.0.1.0.1) c.before.before.before.before.before.before.before.lay-out.ensures c.before.before.before.before.before.before.points-of.ensures c.before.before.before.before.before.links-of.ensures c.before.before.before.projections.ensures c.before.before.if2.false
 
 returns-3 : tie.Need-returns-3
-returns-3 c = test_numbered (tested_plan _ c.before.before.before.before.before.before.before.before.before.before.before.before.check.ensures c.before.before.before.before.before.before.before.before.before.before.if1.false (rw length-map at c.before.before.before.before.before.before.before.before.before.before.before.before.before.well-formed.0.1.1.1.0.1.0.1) c.before.before.before.before.before.before.before.before.lay-out.ensures c.before.before.before.before.before.before.before.points-of.ensures c.before.before.before.before.before.before.links-of.ensures c.before.before.before.before.projections.ensures c.before.before.before.if2.false c.walk-all.ensures)
+returns-3 c = test_numbered (tested_plan _ c.before.before.before.before.before.before.before.before.before.before.before.before.check.ensures c.before.before.before.before.before.before.before.before.before.before.if1.false (rw length-map at c.before.before.before.before.before.before.before.before.before.before.before.before.before.well_formed.0.1.1.1.0.1.0.1) c.before.before.before.before.before.before.before.before.lay-out.ensures c.before.before.before.before.before.before.before.points-of.ensures c.before.before.before.before.before.before.links-of.ensures c.before.before.before.before.projections.ensures c.before.before.before.if2.false c.walk-all.ensures)
 
 pub test-spec : {M : Type 1} → statement M
 test-spec =

@@ -33,8 +33,8 @@ loop-holds c =
     let s = c.before.before.before in (
       omega arith,
       c.before.before.used.ensures,
-      rw length-map at s.well-formed.0.1.1.1.0.1.0.1,
-      rw length-map at s.well-formed.1.0.1.1.1.1.0.1.0.1,
+      rw length-map at s.well_formed.0.1.1.1.0.1.0.1,
+      rw length-map at s.well_formed.1.0.1.1.1.1.0.1.0.1,
       s.requires.1.long,
       s.requires.0,
       s.requires.1.ends,

@@ -47,7 +47,7 @@ add-chosen c =
           c.before.before.before.before.before.before.before.before.before.before.test.ensures.0
           c.before.before.before.before.before.before.before.before.before.refused-by.ensures
           c.before.before.before.before.before.before.before.if1.false
-          (rw length-map at c.before.before.before.before.before.before.before.before.before.before.before.before.well-formed.0.1.1.1.0.1.0.1)
+          (rw length-map at c.before.before.before.before.before.before.before.before.before.before.before.before.well_formed.0.1.1.1.0.1.0.1)
           c.before.before.before.lay-out.ensures
           c.before.before.points-of.ensures
           c.before.links-of.ensures
@@ -60,7 +60,7 @@ chosen-requires c κs =
     c.before.before.before.before.before.before.before.before.before.before.test.ensures.0
     c.before.before.before.before.before.before.before.before.before.refused-by.ensures
     c.before.before.before.before.before.before.before.if1.false
-    (rw length-map at c.before.before.before.before.before.before.before.before.before.before.before.before.well-formed.0.1.1.1.0.1.0.1)
+    (rw length-map at c.before.before.before.before.before.before.before.before.before.before.before.before.well_formed.0.1.1.1.0.1.0.1)
     c.before.before.before.lay-out.ensures
     c.before.before.points-of.ensures
     c.before.links-of.ensures
@@ -76,7 +76,7 @@ write-day-requires c κs =
     c.before.before.before.before.before.before.before.before.before.before.before.before.before.before.before.test.ensures.0
     c.before.before.before.before.before.before.before.before.before.before.before.before.before.before.refused-by.ensures
     c.before.before.before.before.before.before.before.before.before.before.before.before.if1.false
-    (rw length-map at c.before.before.before.before.before.before.before.before.before.before.before.before.before.before.before.before.before.well-formed.0.1.1.1.0.1.0.1)
+    (rw length-map at c.before.before.before.before.before.before.before.before.before.before.before.before.before.before.before.before.before.well_formed.0.1.1.1.0.1.0.1)
     c.before.before.before.before.before.before.before.before.lay-out.ensures
     c.before.before.before.before.before.before.before.points-of.ensures
     c.before.before.before.before.before.before.links-of.ensures
@@ -93,7 +93,7 @@ returns-3 c =
     c.before.before.before.before.before.before.before.before.before.before.before.before.before.before.before.before.before.before.test.ensures.0
     c.before.before.before.before.before.before.before.before.before.before.before.before.before.before.before.before.before.refused-by.ensures
     c.before.before.before.before.before.before.before.before.before.before.before.before.before.before.before.if1.false
-    (rw length-map at c.before.before.before.before.before.before.before.before.before.before.before.before.before.before.before.before.before.before.before.before.well-formed.0.1.1.1.0.1.0.1)
+    (rw length-map at c.before.before.before.before.before.before.before.before.before.before.before.before.before.before.before.before.before.before.before.before.well_formed.0.1.1.1.0.1.0.1)
     c.before.before.before.before.before.before.before.before.before.before.before.lay-out.ensures
     c.before.before.before.before.before.before.before.before.before.before.points-of.ensures
     c.before.before.before.before.before.before.before.before.before.links-of.ensures

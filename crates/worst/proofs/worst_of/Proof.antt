@@ -42,7 +42,7 @@ worst-run-requires c κs =
           c.before.before.before.before.before.before.before.before.before.before.test.ensures.0
           c.before.before.before.before.before.before.before.before.before.refused-by.ensures
           c.before.before.before.before.before.before.before.if1.false
-          (rw length-map at c.before.before.before.before.before.before.before.before.before.before.before.well-formed.0.1.1.1.0.1.0.1)
+          (rw length-map at c.before.before.before.before.before.before.before.before.before.before.before.well_formed.0.1.1.1.0.1.0.1)
           c.before.before.before.before.before.lay-out.ensures
           c.before.before.before.before.points-of.ensures
           c.before.before.before.links-of.ensures
@@ -55,7 +55,7 @@ returns-2 c =
     c.before.before.before.before.before.before.before.before.before.before.before.test.ensures.0
     c.before.before.before.before.before.before.before.before.before.before.refused-by.ensures
     c.before.before.before.before.before.before.before.before.if1.false
-    (rw length-map at c.before.before.before.before.before.before.before.before.before.before.before.before.well-formed.0.1.1.1.0.1.0.1)
+    (rw length-map at c.before.before.before.before.before.before.before.before.before.before.before.before.well_formed.0.1.1.1.0.1.0.1)
     c.before.before.before.before.before.before.lay-out.ensures
     c.before.before.before.before.before.points-of.ensures
     c.before.before.before.before.links-of.ensures

@@ -45,7 +45,7 @@ windows-of-requires : tie.Need-windows-of-requires
 windows-of-requires c κs =
     let s = c.before.before.before.before.before.before.before.before in
     let a = s.args in
-    given a.plan a.self _ (omega (arith, s.well-formed.0.1.1.1.0.1)) (ready_known a.plan _ c.before.before.before.before.before.before.check.ensures c.before.before.before.before.if1.false _ c.before.before.before.links-by.ensures a.self _ c.before.before.is-sound-by.ensures (not-false _ c.before.if2.false))
+    given a.plan a.self _ (omega (arith, s.well_formed.0.1.1.1.0.1)) (ready_known a.plan _ c.before.before.before.before.before.before.check.ensures c.before.before.before.before.if1.false _ c.before.before.before.links-by.ensures a.self _ c.before.before.is-sound-by.ensures (not-false _ c.before.if2.false))
 
 take-from-requires : tie.Need-take-from-requires
 take-from-requires c κs = search rules
@@ -55,7 +55,7 @@ returns-3 c =
     let s = c.before.before.before.before.before.before.before.before.before.before in
     let a = s.args in
     let r = ready_known a.plan _ c.before.before.before.before.before.before.before.before.check.ensures c.before.before.before.before.before.before.if1.false _ c.before.before.before.before.before.links-by.ensures a.self _ c.before.before.before.before.is-sound-by.ensures (not-false _ c.before.before.before.if2.false) in
-    let g = s.well-formed.0.1.1.1 in
+    let g = s.well_formed.0.1.1.1 in
     let held : HeldBoard a.self = record { room = rw length-map at g.1.0.1.0.1; done = omega (arith, g.0.1); calls = rw length-map at g.1.1.0.1.0.1 } in
     taken_known a.plan a.self _ r held _ c.before.windows-of.ensures a.event.now _ c.take-from.ensures.0 ∙ sym (take_is_next a.plan a.self a.event.now r.accepted r.sound)
 

@@ -11,7 +11,7 @@ use Rattle.board.proofs.event.take_next.Tie as tie
 windows-of-requires : tie.Need-windows-of-requires
 windows-of-requires c κs =
     let s = c.before.before in
-    given s.args.plan s.args.board s.args.links (omega (arith, s.well-formed.1.0.1.1.1.0.1)) s.requires
+    given s.args.plan s.args.board s.args.links (omega (arith, s.well_formed.1.0.1.1.1.0.1)) s.requires
 
 take-from-requires : tie.Need-take-from-requires
 take-from-requires c κs = search rules
@@ -20,7 +20,7 @@ returns : tie.Need-returns
 returns c =
     let s = c.before.before.before.before in
     let a = s.args in
-    let g = s.well-formed.1.0.1.1.1 in
+    let g = s.well_formed.1.0.1.1.1 in
     let held : HeldBoard a.board = record { room = rw length-map at g.1.0.1.0.1; done = omega (arith, g.0.1); calls = rw length-map at g.1.1.0.1.0.1 } in
     let t = c.take-from.ensures in
     (taken_known a.plan a.board a.links s.requires held _ c.before.windows-of.ensures a.event.now _ t.0, taken_sound a.plan a.board a.links s.requires held _ c.before.windows-of.ensures a.event.now _ t.0 t.1)

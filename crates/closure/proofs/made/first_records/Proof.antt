@@ -22,7 +22,7 @@ no-records-requires c κs = search rules
 
 loop-holds : tie.Need-loop-init invariant-loop decreases-loop
 loop-holds c =
-    (rw length-map at c.before.well-formed.0.1.1.1.0.1.0.1, ap (λ (rs : List Record). length rs) c.no-records.ensures, rw c.no-records.ensures (copied_none c.before.args.t1 c.before.args.n))
+    (rw length-map at c.before.well_formed.0.1.1.1.0.1.0.1, ap (λ (rs : List Record). length rs) c.no-records.ensures, rw c.no-records.ensures (copied_none c.before.args.t1 c.before.args.n))
 
 mul-r : tie.Need-overflow-mul-r invariant-loop decreases-loop
 mul-r c = omega arith

@@ -19,7 +19,7 @@ signed-requires : tie.Need-signed-requires
 signed-requires c κs = search rules
 
 returns : tie.Need-returns
-returns c = rw (to_z-of_z w32 c.signed.result (sfits_of c.signed.type-inv), c.signed.ensures ∙ c.before.bits_of.ensures) refl
+returns c = rw (to_z-of_z w32 c.signed.result (sfits_of c.signed.type_inv), c.signed.ensures ∙ c.before.bits_of.ensures) refl
 
 pub ordinary-spec : {M : Type 1} → statement M
 ordinary-spec = tie.close (tie.spec cast-t4 cast-t5 bits-of-requires signed-requires returns)

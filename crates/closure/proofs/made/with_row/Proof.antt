@@ -28,7 +28,7 @@ loop-holds : tie.Need-loop-init invariant-loop decreases-loop
 loop-holds c =
     let q = c.before.before.requires in
     let s = row_start _ _ _ _ (filled_whole _ q.whole) in
-    (q.few, q.below, q.room, rw length-map at c.before.before.well-formed.0.1.1.1.0.1.0.1, s.few, s)
+    (q.few, q.below, q.room, rw length-map at c.before.before.well_formed.0.1.1.1.0.1.0.1, s.few, s)
 
 add-v : tie.Need-overflow-add-v invariant-loop decreases-loop
 add-v c = omega arith

@@ -12,7 +12,7 @@ abbrev decreases-loop : tie.decreases-loop
 decreases-loop count list i₀ i = most_links - i
 
 loop-holds : tie.Need-loop-init invariant-loop decreases-loop
-loop-holds c = let g = c.before.well-formed in rw length-map at g.0.1.1.1.0.1.0.1
+loop-holds c = let g = c.before.well_formed in rw length-map at g.0.1.1.1.0.1.0.1
 
 mul-drive-line : tie.Need-overflow-mul-drive-line invariant-loop decreases-loop
 mul-drive-line c = search rules

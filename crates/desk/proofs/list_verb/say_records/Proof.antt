@@ -15,7 +15,7 @@ cast-count : tie.Need-overflow-cast-count invariant-loop decreases-loop
 cast-count c = search rules
 
 loop-holds : tie.Need-loop-init invariant-loop decreases-loop
-loop-holds c = let g = c.before.before.well-formed in rw length-map at g.0.1.1.1.0.1.0.1
+loop-holds c = let g = c.before.before.well_formed in rw length-map at g.0.1.1.1.0.1.0.1
 
 mul-record-line : tie.Need-overflow-mul-record-line invariant-loop decreases-loop
 mul-record-line c = search rules

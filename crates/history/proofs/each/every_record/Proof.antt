@@ -22,7 +22,7 @@ used-requires c κs = search rules
 loop-holds : tie.Need-loop-init invariant-loop decreases-loop
 loop-holds c =
     let s = c.before in
-    (s.well-formed.1.1.1.0.1.0.1, left_start _ s.args.t1 _ c.used.ensures (rw length-map at s.well-formed.0.1.1.1.0.1.0.1))
+    (s.well_formed.1.1.1.0.1.0.1, left_start _ s.args.t1 _ c.used.ensures (rw length-map at s.well_formed.0.1.1.1.0.1.0.1))
 
 mul-r : tie.Need-overflow-mul-r invariant-loop decreases-loop
 mul-r c = search rules

@@ -23,7 +23,7 @@ with-table-requires-2 c κs = search rules
 returns : tie.Need-returns
 returns c =
     let s = c.before.before.before.before in
-    let g = s.well-formed.0.1.1.1.1 in
+    let g = s.well_formed.0.1.1.1.1 in
     let b = s.args.board in
     board_by b.clock b.done b.minutes b.calls _ _ (rw length-map at g.0.1.0.1) (rw length-map at g.1.0.1.0.1) c.before.with-table.ensures c.with-table2.ensures
 

@@ -18,7 +18,7 @@ abbrev decreases-loop : tie.decreases-loop
 decreases-loop at table room₀ q₀ room q = most_points - q
 
 loop-holds : tie.Need-loop-init invariant-loop decreases-loop
-loop-holds c = (c.requires, omega arith, omega (arith, c.well-formed.1.1.0.1.0.1), omega (arith, c.well-formed.0.1.0.1), omega (arith, c.well-formed.0.1.0.1), paste-zero c.args.before c.args.at c.args.t3)
+loop-holds c = (c.requires, omega arith, omega (arith, c.well_formed.1.1.0.1.0.1), omega (arith, c.well_formed.0.1.0.1), omega (arith, c.well_formed.0.1.0.1), paste-zero c.args.before c.args.at c.args.t3)
 
 mul-room : tie.Need-overflow-mul-room invariant-loop decreases-loop
 mul-room c = search rules

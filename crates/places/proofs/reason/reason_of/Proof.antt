@@ -19,7 +19,7 @@ joined-requires : tie.Need-joined-requires
 joined-requires c κs = search rules
 
 returns : tie.Need-returns
-returns c = rw (to_z-of_z w32 c.joined.result (sfits_of c.joined.type-inv)) (reason_by c.before.before.before.before.args.row c.before.before.before.byte.ensures c.before.before.byte2.ensures c.before.byte3.ensures c.joined.ensures)
+returns c = rw (to_z-of_z w32 c.joined.result (sfits_of c.joined.type_inv)) (reason_by c.before.before.before.before.args.row c.before.before.before.byte.ensures c.before.before.byte2.ensures c.before.byte3.ensures c.joined.ensures)
 
 pub reason-of-spec : {M : Type 1} → statement M
 reason-of-spec =

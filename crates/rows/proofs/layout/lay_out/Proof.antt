@@ -55,7 +55,7 @@ loop-again : tie.Need-loop-preserved invariant-loop decreases-loop
 loop-again c = let v = c.before.before.before.before.before.before.loop.invariant in (omega arith, v.1, turn v.2 (laid_started _ _ c.before.before.before.before.before.before.before.before.before.before.requires c.before.before.before.before.before.loop-test.true v.2.long v.1 (omega (arith, c.before.before.struct_known.given.1.1.0.fits)) c.before.row_of.ensures c.write-row.ensures))
 
 returns : tie.Need-returns invariant-loop decreases-loop
-returns c = ended (records_in_lem _ (rw length-map at c.before.before.before.before.before.well-formed.0.1.1.1.0.1.0.1) c.before.before.before.before.before.requires c.before.loop.invariant.0 c.loop-test.false) c.before.loop.invariant.2
+returns c = ended (records_in_lem _ (rw length-map at c.before.before.before.before.before.well_formed.0.1.1.1.0.1.0.1) c.before.before.before.before.before.requires c.before.loop.invariant.0 c.loop-test.false) c.before.loop.invariant.2
 
 pub lay-out-spec : {M : Type 1} → statement M
 lay-out-spec =

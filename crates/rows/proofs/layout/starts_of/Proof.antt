@@ -16,7 +16,7 @@ cast-left : tie.Need-overflow-cast-left invariant-loop decreases-loop
 cast-left c = search rules
 
 loop-holds : tie.Need-loop-init invariant-loop decreases-loop
-loop-holds c = starting_none (rw length-map at c.well-formed.0.1.1.1.0.1.0.1) c.requires
+loop-holds c = starting_none (rw length-map at c.well_formed.0.1.1.1.0.1.0.1) c.requires
 
 sub-left : tie.Need-overflow-sub-left invariant-loop decreases-loop
 sub-left c = omega (arith, c.loop-test.true)

@@ -1,0 +1,8 @@
+-- `buffers::ending::behind` meets its contract. Assumes nothing.
+use borrow.Author.Rules.{rules}
+use Rattle.buffers.proofs.ending.behind.Goals as goal
+
+pub returns : goal.returns
+returns c =
+    let e = c.within-n.ensures.1 in
+    (rw e at c.append.ensures.0, rw e at c.append.ensures.1)

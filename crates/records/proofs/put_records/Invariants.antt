@@ -1,0 +1,19 @@
+-- `records::put_records` meets its contract. Assumes nothing.
+use borrow.Author.Rules.{rules}
+use native.Mathlib.Omega.{arith}
+use mathlib.Core.Path.{◌≡◌, refl, ◌∙◌}
+use Prim.Native.Nat.{◌≤◌, ◌<◌, ◌-◌, ◌*◌}
+use lib.ListN.{length, take, get_or}
+use Rattle.records.specs.Limits.{most_records, record_bytes}
+use Rattle.records.specs.Records.{blank}
+use Rattle.records.specs.Bytes.{all_bytes}
+use lib.Seq.{get_or-take, length-take-le, take-take}
+use Rattle.records.proofs.Putting.{put_of, put_more}
+use Rattle.records.proofs.put_records.Given as goal
+
+abbrev pub invariant-loop-i : goal.invariant-loop-i
+invariant-loop-i l =
+    (l.i ≤ l.count) × (l.count ≤ most_records) × (length l.records ≡ most_records) × (record_bytes * l.count ≤ length l.initial.out) × (length l.out ≡ length l.initial.out) × (l.out ≡ put_of (take l.count l.records) l.i l.initial.out)
+
+abbrev pub decreases-loop-i : goal.decreases-loop-i
+decreases-loop-i l = l.count - l.i

@@ -40,6 +40,106 @@ def blocks(text):
     return ["\n".join(b).rstrip() for b in out]
 
 
+CLAUSES = {}
+
+
+def clauses(root="crates"):
+    """the names of each function's clauses, in their order: {"board::Board::take": {"ensures": [..], "requires": [..]}}"""
+    import glob
+
+    for f in glob.glob(f"{root}/*/src/**/*.rt", recursive=True):
+        parts = f.split("/")
+        crate = parts[1]
+        mod = [] if parts[-1] in ("lib.rt", "main.rt") else [parts[-1][:-3]]
+        owner = None
+        fn = None
+        for line in read(f).split("\n"):
+            m = re.match(r"impl(?:<[^>]*>)? (?:\w+ for )?(\w+)", line)
+            if m:
+                owner = m.group(1)
+            if line.startswith("}"):
+                owner = None
+            m = re.search(r"\bfn (\w+)", line)
+            if m and not line.lstrip().startswith("//"):
+                fn = "::".join([crate, *mod, *([owner] if owner else []), m.group(1)])
+                CLAUSES[fn] = {"ensures": [], "requires": []}
+            m = re.match(r"\s*(?:pub )?(ensures|requires)(?: (\w+))? \{", line)
+            if m and fn:
+                CLAUSES[fn][m.group(1)].append(m.group(2))
+
+
+def part_of(names, more):
+    """projections `.1.1.0` of nested pairs, as the clause they name and what is left"""
+    n = len(names)
+    if n < 2 or not all(names):
+        return more
+    k = 0
+    while k < len(more) and k < n - 1 and more[k] == "1":
+        k += 1
+    if k == n - 1:
+        return [names[k], *more[k:]]
+    if k < len(more) and more[k] == "0":
+        return [names[k], *more[k + 1 :]]
+    return more
+
+
+def commas(s):
+    """a parenthesised tuple's parts, or None"""
+    s = s.strip()
+    if not (s.startswith("(") and s.endswith(")")):
+        return None
+    depth, parts, now = 0, [], ""
+    for i, ch in enumerate(s):
+        if ch in "([{":
+            depth += 1
+            if depth == 1:
+                continue
+        if ch in ")]}":
+            depth -= 1
+            if depth == 0:
+                if i != len(s) - 1:
+                    return None
+                continue
+        if ch == "," and depth == 1:
+            parts.append(now)
+            now = ""
+        else:
+            now += ch
+    parts.append(now)
+    return [p.strip() for p in parts] if len(parts) > 1 else None
+
+
+def as_record(rest, names):
+    """a body that ends in a tuple of the clauses, as a record of them by name"""
+    if len(names) < 2 or not all(names):
+        return rest
+    at = 0
+    m = None
+    for m in re.finditer(r"(^|\bin)(?=\s)", rest):
+        pass
+    # the text behind the last `in` of the outermost lets
+    depth, last, i = 0, 0, 0
+    while i < len(rest):
+        ch = rest[i]
+        if ch in "([{":
+            depth += 1
+        elif ch in ")]}":
+            depth -= 1
+        elif depth == 0 and re.match(r"\bin\s", rest[i:]) and (i == 0 or rest[i - 1] in " \n"):
+            last = i + 2
+        i += 1
+    front, tail = rest[:last], rest[last:]
+    parts = commas(tail)
+    while parts and len(parts) < len(names):
+        more = commas(parts[-1])
+        if not more:
+            return rest
+        parts = parts[:-1] + more
+    if not parts or len(parts) != len(names):
+        return rest
+    return front + "\n    record {\n" + "".join(f"      {n} = {p};\n" for n, p in zip(names, parts)) + "    }"
+
+
 class Places:
     def __init__(self, d):
         self.d = d
@@ -49,6 +149,7 @@ class Places:
             self.parent[old] = parent
             self.step[old] = (o, n)
             self.arm[old] = arm
+        self.callee = {r[0]: r[3] for r in d["places"]}
         self.args = {}
         for o, n in d["args"]:
             a, b = o.split(".")[-1], n.split(".")[-1]
@@ -61,6 +162,23 @@ class Places:
                 return None
             place = self.parent.get(place)
         return place
+
+    def parts(self, place, field, more):
+        """`.new.1.0` of a call is now `.new.NAME`, by the callee's parameters"""
+        if len(more) < 2 or more[0] not in ("new", "auto"):
+            return more
+        at = place
+        while at is not None and norm(self.step[at][0]) != norm(field):
+            at = self.parent.get(at)
+        names = self.d["params"].get(self.callee.get(at) or "", None) if at else None
+        if not names:
+            return more
+        k = 1
+        while k < len(more) and more[k] == "1":
+            k += 1
+        if k < len(more) and more[k] == "0" and k - 1 < len(names):
+            return [more[0], names[k - 1], *more[k + 1 :]]
+        return more
 
     def in_arm(self, goal, place, field, more):
         """an arm's own name for a part of an older step: (name, how many projections it takes in)"""
@@ -143,12 +261,23 @@ def paths(body, place, places, left, where):
                 left.append(f"{where}: {m.group(0)} alone")
             return "c"
         field = rest[1:]
+        if field == "requires":
+            more = part_of(CLAUSES.get(places.own, {}).get("requires", []), more)
         if field in ("args", "ranges", "requires", "well_formed", "well-formed", "type_inv"):
             return "c." + field + "".join("." + places.args.get(x, x) for x in more)
+        more = places.parts(at, field, more)
+        if more[:1] == ["ensures"]:
+            here = at
+            while here is not None and norm(places.step[here][0]) != norm(field):
+                here = places.parent.get(here)
+            names = CLAUSES.get(places.callee.get(here) or "", {}).get("ensures", []) if here else []
+            more = ["ensures", *part_of(names, more[1:])]
         arm = places.in_arm(place, at, field, more)
         if arm:
             return "c." + arm[0] + "".join("." + x for x in more[arm[1] :])
         new = places.find(at, field)
+        if new is None and field[-1:].isdigit():
+            new = places.find(at, field.rstrip("0123456789").rstrip("-_"))
         if new is None:
             if field in places.args:
                 return "c." + places.args[field] + "".join("." + x for x in more)
@@ -189,6 +318,7 @@ def convert(crate, name, d):
     left = []
     goals = goal_places(d)
     places = Places(d)
+    places.own = f"{crate}::" + name.replace("/", "::")
     loops = {norm(o): (n, vs, ch) for ((o, n), vs), ch in zip(d["loops"], d["changed"])}
     comment, uses, inv, ans, helpers = [], [], [], [], []
     dropped = 0
@@ -251,6 +381,10 @@ def convert(crate, name, d):
         if re.search(r"(?<![\w'.])κs(?![\w'])", rest):
             left.append(f"{where}: κs is used")
         rest = paths(rest, place, places, left, where).rstrip()
+        # a test of `!x` says today what x is
+        rest = re.sub(r"not-(?:true|false) (?:_|[\w.\-]+|\([^()]*\)) (c\.[\w\-]*not[\w\-]*\.(?:true|false))", r"\1", rest)
+        if new.startswith("returns"):
+            rest = as_record(rest, CLAUSES.get(places.own, {}).get("ensures", []))
         for a, b in places.args.items():
             rest = re.sub(r"(?<=\w)\." + re.escape(a) + r"(?![\w'\-])", "." + b, rest)
         rest = "\n    " + rest.strip() if "\n" in rest.strip() else " " + rest.strip()
@@ -277,6 +411,7 @@ def convert(crate, name, d):
 
 def main(argv):
     crate, only = argv[0], argv[1:]
+    clauses()
     out = f"/tmp/names/{crate}"
     os.makedirs(out, exist_ok=True)
     r = subprocess.run(["rt", "check", "--generated", out, "--old-names"], cwd=f"crates/{crate}", capture_output=True, text=True)

@@ -191,7 +191,8 @@ class Places:
         for arm, _, rows in seen:
             best = None
             for new, step, path in rows:
-                if norm(step) == norm(field) and more[: len(path)] == path and not new.endswith("-own"):
+                own = new.endswith("-own")
+                if norm(step) == norm(field) and more[: len(path)] == path and (not own or re.match(r"keys\d*$|rest$", more[0] if more else "")):
                     if best is None or len(path) > best[1]:
                         best = (f"{arm}.{new}", len(path))
             if best:
@@ -322,6 +323,7 @@ def convert(crate, name, d):
     loops = {norm(o): (n, vs, ch) for ((o, n), vs), ch in zip(d["loops"], d["changed"])}
     comment, uses, inv, ans, helpers = [], [], [], [], []
     dropped = 0
+    needs_not = []
     fn = name.split("/")[-1]
     for b in blocks(text):
         if b.startswith("use "):
@@ -382,7 +384,15 @@ def convert(crate, name, d):
             left.append(f"{where}: κs is used")
         rest = paths(rest, place, places, left, where).rstrip()
         # a test of `!x` says today what x is
+        # how long an array field is stands in a value's type as it is
+        rest = re.sub(r"rw length-map at (c\.well_formed)", r"\1", rest)
+        before = rest
         rest = re.sub(r"not-(?:true|false) (?:_|[\w.\-]+|\([^()]*\)) (c\.[\w\-]*not[\w\-]*\.(?:true|false))", r"\1", rest)
+        stripped = before != rest
+        wrapped = re.sub(r"(?<![\w.])(c\.(?:if|loop)-not-[\w\-]*\.(?:true|false))", r"(ap not \1)", rest)
+        if wrapped != rest and not stripped:
+            rest = wrapped
+            needs_not.append(1)
         if new.startswith("returns"):
             rest = as_record(rest, CLAUSES.get(places.own, {}).get("ensures", []))
         for a, b in places.args.items():
@@ -390,6 +400,12 @@ def convert(crate, name, d):
         rest = "\n    " + rest.strip() if "\n" in rest.strip() else " " + rest.strip()
         ans.append("\n".join(head + [f"pub {new} : goal.{new}", *mods, f"{new} {' '.join(params)} ={rest}"]))
     uses = [u for u in uses if not re.search(r"\.(Statement\.\{statement\}|Tie as tie)", u)]
+    if needs_not:
+        have = "\n".join(uses)
+        if not re.search(r"[{ ]ap[,}]", have):
+            uses.append("use mathlib.Core.Path.{ap}")
+        if not re.search(r"[{ ]not[,}]", have):
+            uses.append("use mathlib.Core.Bool.{not}")
     base = "Rattle." + crate + ".proofs." + name.replace("/", ".")
     head = "\n".join(comment)
     if inv:

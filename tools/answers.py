@@ -385,7 +385,7 @@ def convert(crate, name, d):
         rest = paths(rest, place, places, left, where).rstrip()
         # a test of `!x` says today what x is
         # how long an array field is stands in a value's type as it is
-        rest = re.sub(r"rw length-map at (c\.well_formed)", r"\1", rest)
+        rest = re.sub(r"rw length-map at (\w+(?:\.\w+)+)", r"\1", rest)
         before = rest
         rest = re.sub(r"not-(?:true|false) (?:_|[\w.\-]+|\([^()]*\)) (c\.[\w\-]*not[\w\-]*\.(?:true|false))", r"\1", rest)
         stripped = before != rest

@@ -15,7 +15,7 @@ pub loop-i-init : goal.loop-i-init
 unfolding how_many
 loop-i-init c =
     let g = c.well_formed in
-    (omega arith, c.used-count.ensures, rw length-map at g.0.1.1.1.0.1.0.1, refl)
+    (omega arith, c.used-count.ensures, g.0.1.1.1.0.1.0.1, refl)
 
 pub overflow_add-n : goal.overflow_add-n
 overflow_add-n c =

@@ -13,7 +13,7 @@ use Rattle.plan.proofs.link_to.Goals as goal
 pub loop-i-init : goal.loop-i-init
 loop-i-init c =
     let g = c.well_formed in
-    (omega arith, c.used-count.ensures, rw length-map at g.0.1.1.1.0.1.0.1, refl)
+    (omega arith, c.used-count.ensures, g.0.1.1.1.0.1.0.1, refl)
 
 pub returns-then-r-p : goal.returns-then-r-p
 returns-then-r-p c =

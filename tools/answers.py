@@ -384,6 +384,11 @@ def convert(crate, name, d):
             left.append(f"{where}: κs is used")
         rest = paths(rest, place, places, left, where).rstrip()
         # a test of `!x` says today what x is
+        called = {n: places.callee.get(old) for old, (_, n) in places.step.items()}
+        for m in list(re.finditer(r"let (" + WORD + r") = c\.([\w\-]+)\.ensures in", rest)):
+            names = CLAUSES.get(called.get(m.group(2)) or "", {}).get("ensures", [])
+            if len(names) > 1 and all(names):
+                rest = re.sub(r"(?<![\w'.\-])" + re.escape(m.group(1)) + r"((?:\.[01])+)(?![\w])", lambda k: m.group(1) + "".join("." + x for x in part_of(names, k.group(1).split(".")[1:])), rest)
         # how long an array field is stands in a value's type as it is
         rest = re.sub(r"rw length-map at (\w+(?:\.\w+)+)", r"\1", rest)
         before = rest
@@ -408,12 +413,34 @@ def convert(crate, name, d):
             uses.append("use mathlib.Core.Bool.{not}")
     base = "Rattle." + crate + ".proofs." + name.replace("/", ".")
     head = "\n".join(comment)
+    # what an invariant speaks of stands with it
+    def named(b):
+        m = re.search(r"^(?:pub |abbrev |unfoldable |opaque )*(?:data |record )?([^\s(){}:]+)(?: \([^)]*\))* :", b, re.M)
+        return m.group(1) if m else None
+
+    with_inv, text_inv = [], "\n".join(inv)
+    for b in reversed(helpers):
+        n = named(b)
+        if n and re.search(r"(?<![\w'\-])" + re.escape(n) + r"(?![\w'\-])", text_inv):
+            with_inv.insert(0, b)
+            text_inv += b
+    helpers = [b for b in helpers if b not in with_inv]
+    shared = [named(b) for b in with_inv if any(re.search(r"(?<![\w'\-])" + re.escape(named(b)) + r"(?![\w'\-])", a) for a in ans + helpers)]
+
+    def public(b):
+        n = named(b)
+        return "\n".join(
+            (l if "pub " in l else re.sub(r"^((?:abbrev |unfoldable )?)", r"\1pub ", l)) if re.match(r"(?:abbrev |unfoldable )?(?:pub )?(?:data |record )?" + re.escape(n) + r"(?: \([^)]*\))* :", l) else l
+            for l in b.split("\n")
+        )
+
+    inv = [public(b) for b in with_inv] + inv
     if inv:
         it = "\n".join(uses + [f"use {base}.Given as goal"])
         with open(f"{folder}/Invariants.antt", "w") as o:
             o.write((head + "\n" if head else "") + it + "\n\n" + "\n\n".join(inv) + "\n")
     if ans:
-        it = "\n".join(uses + [f"use {base}.Goals as goal"])
+        it = "\n".join(uses + ([f"use {base}.Invariants.{{{', '.join(shared)}}}"] if shared else []) + [f"use {base}.Goals as goal"])
         with open(f"{folder}/Answers.antt", "w") as o:
             o.write((head + "\n" if head else "") + it + "\n\n" + "\n\n".join(helpers + ans) + "\n")
     elif helpers:

@@ -68,6 +68,20 @@ def clauses(root="crates"):
                 CLAUSES[fn][m.group(1)].append(m.group(2))
 
 
+def named_clauses(fn, kind):
+    """a function's clause names, wherever in its crate the text of it stands"""
+    if not fn:
+        return []
+    if fn in CLAUSES:
+        return CLAUSES[fn][kind]
+    parts = fn.split("::")
+    for n in (2, 1):
+        found = [k for k in CLAUSES if k.split("::")[0] == parts[0] and k.split("::")[-n:] == parts[-n:]]
+        if len(found) == 1:
+            return CLAUSES[found[0]][kind]
+    return []
+
+
 def part_of(names, more):
     """projections `.1.1.0` of nested pairs, as the clause they name and what is left"""
     n = len(names)
@@ -135,6 +149,10 @@ def as_record(rest, names):
         if not more:
             return rest
         parts = parts[:-1] + more
+    if not parts and re.match(r"\s*[a-z_]\w*\s", tail) and not re.match(r"\s*(?:record|rw|simp|let|elim|search|omega|grind|absurd|subst)\b", tail):
+        n = len(names)
+        row = "".join(f"      {x} = all" + ".1" * k + (".0" if k < n - 1 else "") + ";\n" for k, x in enumerate(names))
+        return front + "\n    let all = " + tail.strip() + " in\n    record {\n" + row + "    }"
     if not parts or len(parts) != len(names):
         return rest
     return front + "\n    record {\n" + "".join(f"      {n} = {p};\n" for n, p in zip(names, parts)) + "    }"
@@ -263,7 +281,7 @@ def paths(body, place, places, left, where):
             return "c"
         field = rest[1:]
         if field == "requires":
-            more = part_of(CLAUSES.get(places.own, {}).get("requires", []), more)
+            more = part_of(named_clauses(places.own, "requires"), more)
         if field in ("args", "ranges", "requires", "well_formed", "well-formed", "type_inv"):
             return "c." + field + "".join("." + places.args.get(x, x) for x in more)
         more = places.parts(at, field, more)
@@ -271,7 +289,7 @@ def paths(body, place, places, left, where):
             here = at
             while here is not None and norm(places.step[here][0]) != norm(field):
                 here = places.parent.get(here)
-            names = CLAUSES.get(places.callee.get(here) or "", {}).get("ensures", []) if here else []
+            names = named_clauses(places.callee.get(here) or "", "ensures") if here else []
             more = ["ensures", *part_of(names, more[1:])]
         arm = places.in_arm(place, at, field, more)
         if arm:
@@ -308,7 +326,7 @@ def invariant(sig, body, old, new, vars_, changed, left, where):
     to.pop("_", None)
     names = "|".join(re.escape(p) for p in sorted(to, key=len, reverse=True))
     if names:
-        rest = re.sub(r"(?<![\w'.\-₀-₉])(" + names + r")(?![\w'\-₀-₉])", lambda m: to[m.group(1)], rest)
+        rest = re.sub(r"(?<![\w'.\-₀-₉])(" + names + r")(?![\w'\-₀-₉]| = )", lambda m: to[m.group(1)], rest)
     return rest
 
 
@@ -386,9 +404,13 @@ def convert(crate, name, d):
         # a test of `!x` says today what x is
         called = {n: places.callee.get(old) for old, (_, n) in places.step.items()}
         for m in list(re.finditer(r"let (" + WORD + r") = c\.([\w\-]+)\.ensures in", rest)):
-            names = CLAUSES.get(called.get(m.group(2)) or "", {}).get("ensures", [])
+            names = named_clauses(called.get(m.group(2)) or "", "ensures")
             if len(names) > 1 and all(names):
                 rest = re.sub(r"(?<![\w'.\-])" + re.escape(m.group(1)) + r"((?:\.[01])+)(?![\w])", lambda k: m.group(1) + "".join("." + x for x in part_of(names, k.group(1).split(".")[1:])), rest)
+        for m in list(re.finditer(r"let (" + WORD + r") = c\.([\w\-]+) in", rest)):
+            names = named_clauses(called.get(m.group(2)) or "", "ensures")
+            if len(names) > 1 and all(names):
+                rest = re.sub(r"(?<![\w'.\-])" + re.escape(m.group(1)) + r"\.ensures((?:\.[01])+)(?![\w])", lambda k: m.group(1) + ".ensures" + "".join("." + x for x in part_of(names, k.group(1).split(".")[1:])), rest)
         # how long an array field is stands in a value's type as it is
         rest = re.sub(r"rw length-map at (\w+(?:\.\w+)+)", r"\1", rest)
         before = rest
@@ -399,7 +421,7 @@ def convert(crate, name, d):
             rest = wrapped
             needs_not.append(1)
         if new.startswith("returns"):
-            rest = as_record(rest, CLAUSES.get(places.own, {}).get("ensures", []))
+            rest = as_record(rest, named_clauses(places.own, "ensures"))
         for a, b in places.args.items():
             rest = re.sub(r"(?<=\w)\." + re.escape(a) + r"(?![\w'\-])", "." + b, rest)
         rest = "\n    " + rest.strip() if "\n" in rest.strip() else " " + rest.strip()

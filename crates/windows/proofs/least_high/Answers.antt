@@ -10,18 +10,14 @@ use Rattle.windows.specs.Inside.{least_at}
 use Rattle.windows.proofs.Opening.{least_at_le, least_turn, least_end}
 use Rattle.windows.proofs.least_high.Goals as goal
 
--- the lowest point that is left has a place
-placed : (c : tie.After-first invariant-loop decreases-loop) → c.first.result < 32
-placed c = let i = c.before.before.loop.invariant in rw c.first.ensures (first_member _ (omega arith) i.0).small
-
 pub loop-rest-init : goal.loop-rest-init
 loop-rest-init c = (omega arith, omega arith, omega (arith, least_at_le c.args.highs (members_of c.args.set)))
 
 pub offset_bounds-highs-at : goal.offset_bounds-highs-at
-offset_bounds-highs-at c = omega (arith, placed c)
+offset_bounds-highs-at c = let p : c.first-p.result < 32 = rw c.first-p.ensures (first_member _ (omega arith) c.loop-rest.invariant.0).small in omega arith
 
 pub bounds-highs-at : goal.bounds-highs-at
-bounds-highs-at c = placed c
+bounds-highs-at c = rw c.first-p.ensures (first_member _ (omega arith) c.loop-rest.invariant.0).small
 
 pub loop-rest-smaller : goal.loop-rest-smaller
 loop-rest-smaller c =

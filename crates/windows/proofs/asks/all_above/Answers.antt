@@ -12,18 +12,14 @@ use Rattle.plan.specs.Limits.{farthest}
 use Rattle.history.proofs.Walks.{members_fails, members_turn, members_end}
 use Rattle.windows.proofs.asks.all_above.Goals as goal
 
--- the lowest point that is left has a place
-placed : (c : tie.After-first invariant-loop decreases-loop) → c.first.result < 32
-placed c = let i = c.before.before.loop.invariant in rw c.first.ensures (first_member _ (omega arith) i.0).small
-
 pub loop-rest-init : goal.loop-rest-init
 loop-rest-init c = (omega arith, refl)
 
 pub offset_bounds-lows-at : goal.offset_bounds-lows-at
-offset_bounds-lows-at c = omega (arith, placed c)
+offset_bounds-lows-at c = let p : c.first-p.result < 32 = rw c.first-p.ensures (first_member _ (omega arith) c.loop-rest.invariant.0).small in omega arith
 
 pub bounds-lows-at : goal.bounds-lows-at
-bounds-lows-at c = placed c
+bounds-lows-at c = rw c.first-p.ensures (first_member _ (omega arith) c.loop-rest.invariant.0).small
 
 pub returns-then-not-is_above : goal.returns-then-not-is_above
 returns-then-not-is_above c =

@@ -254,7 +254,7 @@ def paths(body, place, places, left, where):
         if name != "c" and name not in alias:
             return m.group(0)
         at = places.up(place, befores + alias.get(name, 0))
-        if at is None:
+        if at is None and rest[1:] not in ("args", "ranges", "requires", "well_formed", "well-formed", "type_inv"):
             left.append(f"{where}: {m.group(0)} goes past the start")
             return m.group(0)
         if not rest:

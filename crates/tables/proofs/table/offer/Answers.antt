@@ -2,7 +2,7 @@
 use mathlib.Core.Path.{◌≡◌, refl}
 use mathlib.Core.Logic.{inl, inr}
 use mathlib.Core.List.{List}
-use Prim.Native.Nat.{ℕ, ◌+◌, ◌-◌, ◌*◌, ◌<◌, ◌≤◌}
+use Prim.Native.Nat.{ℕ, ◌+◌, ◌*◌, ◌<◌, ◌≤◌}
 use native.Mathlib.Omega.{arith}
 use lib.ListN.{get_or, set}
 use lib.Seq.{get_or-set_same, get_or-set_other}
@@ -12,9 +12,7 @@ use Rattle.tables.specs.Entries.{middle, raw, Sound}
 use Rattle.tables.proofs.Widths.{wide_in, wide_mono}
 use Rattle.tables.proofs.Rows.{stored}
 use Rattle.tables.specs.Steps.{Offered}
-use borrow.Author.Rules.{rules}
-use Rattle.tables.proofs.table.offer.Statement.{statement}
-use Rattle.tables.proofs.table.offer.Tie as tie
+use Rattle.tables.proofs.table.offer.Goals as goal
 
 offered : (i j u d v : ℕ) (t : List ℕ) → i * side + j < room → Sound t → u ≤ farthest → d ≤ farthest → v + d ≡ middle + u → v < raw t i j → Offered i j u d t (set t (i * side + j) v)
 offered i j u d v t h sound hu hd e l =
@@ -34,51 +32,8 @@ kept i j u d v t h sound hu hd e l =
     let w = wide_in (raw t i j) (omega arith) in
     record { sound = sound; low = omega arith; via = omega (arith, w); from = inl refl; rest = λ q n. refl }
 
-add-v : tie.Need-overflow-add-v
-add-v c = search rules
+pub returns-then-v-t : goal.returns-then-v-t
+returns-then-v-t c = offered c.args.i c.args.j c.args.up c.args.down _ _ (omega arith) c.requires.sound c.requires.up c.requires.down (omega arith) c.if-v-t.true
 
-sub-v : tie.Need-overflow-sub-v
-sub-v c = search rules
-
-cast-v : tie.Need-overflow-cast-v
-cast-v c = search rules
-
-mul-p : tie.Need-overflow-mul-p
-mul-p c = search rules
-
-add-p : tie.Need-overflow-add-p
-add-p c = search rules
-
-mul-if1 : tie.Need-overflow-mul-if1
-mul-if1 c = search rules
-
-element-copy-out-if1 : tie.Need-element-copy-out-if1
-element-copy-out-if1 c = search rules
-
-mul-t : tie.Need-overflow-mul-t
-mul-t c = search rules
-
-element-write-t : tie.Need-element-write-t
-element-write-t c = search rules
-
-returns : tie.Need-returns
-returns c = let s = c.before.before in offered s.args.i s.args.j s.args.up s.args.down _ _ (omega arith) s.requires.sound s.requires.up s.requires.down (omega arith) c.if1.true
-
-returns-2 : tie.Need-returns-2
-returns-2 c = let s = c.before.before in kept s.args.i s.args.j s.args.up s.args.down _ _ (omega arith) s.requires.sound s.requires.up s.requires.down (omega arith) c.if1.false
-
-pub offer-spec : {M : Type 1} → statement M
-offer-spec =
-    tie.close
-    (tie.spec
-    add-v
-    sub-v
-    cast-v
-    mul-p
-    add-p
-    mul-if1
-    element-copy-out-if1
-    mul-t
-    element-write-t
-    returns
-    returns-2)
+pub returns-else-v-t : goal.returns-else-v-t
+returns-else-v-t c = kept c.args.i c.args.j c.args.up c.args.down _ _ (omega arith) c.requires.sound c.requires.up c.requires.down (omega arith) c.if-v-t.false

@@ -135,6 +135,9 @@ def as_record(rest, names):
         if not more:
             return rest
         parts = parts[:-1] + more
+    if not parts and not re.match(r"\s*(rw|simp|search|omega|grind|cc|elim|record|let|λ|absurd|\(|\?)", tail):
+        # one term that proves all of them
+        return front + f"\n    let both = {tail.strip()} in\n    record {{\n" + "".join(f"      {x} = both.{i};\n" for i, x in enumerate(names)) + "    }"
     if not parts or len(parts) != len(names):
         return rest
     return front + "\n    record {\n" + "".join(f"      {n} = {p};\n" for n, p in zip(names, parts)) + "    }"

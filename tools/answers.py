@@ -295,6 +295,9 @@ def paths(body, place, places, left, where):
         new = places.find(at, field)
         if new is None and field[-1:].isdigit():
             new = places.find(at, field.rstrip("0123456789").rstrip("-_"))
+        if new is None and field.endswith("_lem"):
+            # the spelling took the step for a lemma
+            new = places.find(at, field[: -len("_lem")])
         if new is None:
             # counted too far back: the only step of that name before the goal is meant
             new = places.only(place, field)

@@ -293,14 +293,14 @@ def paths(body, place, places, left, where):
         if arm:
             return "c." + arm[0] + "".join("." + x for x in more[arm[1] :])
         new = places.find(at, field)
+        if new is None:
+            # counted too far back: the only step of that name before the goal is meant
+            new = places.only(place, field)
         if new is None and field[-1:].isdigit():
             new = places.find(at, field.rstrip("0123456789").rstrip("-_"))
         if new is None and field.endswith("_lem"):
             # the spelling took the step for a lemma
             new = places.find(at, field[: -len("_lem")])
-        if new is None:
-            # counted too far back: the only step of that name before the goal is meant
-            new = places.only(place, field)
         if new is None:
             if field in places.args:
                 return "c." + places.args[field] + "".join("." + x for x in more)

@@ -226,6 +226,16 @@ class Places:
             at = self.parent.get(at)
         return None
 
+    def only(self, place, field):
+        found = []
+        at = place
+        while at is not None:
+            o, n = self.step[at]
+            if o and norm(o) == norm(field):
+                found.append(n)
+            at = self.parent.get(at)
+        return found[0] if len(found) == 1 else None
+
 
 def goal_places(d):
     """goal's old names (all spellings) -> (new name, place)"""
@@ -272,7 +282,10 @@ def paths(body, place, places, left, where):
         if name != "c" and name not in alias:
             return m.group(0)
         at = places.up(place, befores + alias.get(name, 0))
-        if at is None:
+        if at is None and rest[1:] not in ("args", "ranges", "requires", "well_formed", "well-formed", "type_inv"):
+            new = places.only(place, rest[1:]) if rest else None
+            if new:
+                return "c." + new + "".join("." + x for x in more)
             left.append(f"{where}: {m.group(0)} goes past the start")
             return m.group(0)
         if not rest:
@@ -295,8 +308,14 @@ def paths(body, place, places, left, where):
         if arm:
             return "c." + arm[0] + "".join("." + x for x in more[arm[1] :])
         new = places.find(at, field)
+        if new is None:
+            # counted too far back: the only step of that name before the goal is meant
+            new = places.only(place, field)
         if new is None and field[-1:].isdigit():
             new = places.find(at, field.rstrip("0123456789").rstrip("-_"))
+        if new is None and field.endswith("_lem"):
+            # the spelling took the step for a lemma
+            new = places.find(at, field[: -len("_lem")])
         if new is None:
             if field in places.args:
                 return "c." + places.args[field] + "".join("." + x for x in more)

@@ -265,16 +265,18 @@ def read(f):
 
 def lets(body):
     """variables that stand for c itself some steps before"""
-    out = {}
-    for m in re.finditer(r"let (" + WORD + r") = c((?:\.before)*) in", body):
-        out[m.group(1)] = m.group(2).count(".before")
+    out = {"c": 0}
+    for m in re.finditer(r"let (" + WORD + r") = (" + WORD + r")((?:\.before)*) in", body):
+        if m.group(2) in out:
+            out[m.group(1)] = out[m.group(2)] + m.group(3).count(".before")
+    out.pop("c")
     return out
 
 
 def paths(body, place, places, left, where):
     alias = lets(body)
     for a in alias:
-        body = re.sub(r"let " + re.escape(a) + r" = c(?:\.before)* in\s*", "", body)
+        body = re.sub(r"let " + re.escape(a) + r" = " + WORD + r"(?:\.before)* in\s*", "", body)
 
     def change(m):
         name, befores, rest = m.group(1), m.group(2).count(".before"), m.group(3) or ""
@@ -297,6 +299,12 @@ def paths(body, place, places, left, where):
             more = part_of(named_clauses(places.own, "requires"), more)
         if field in ("args", "ranges", "requires", "well_formed", "well-formed", "type_inv"):
             return "c." + field + "".join("." + places.args.get(x, x) for x in more)
+        known = re.match(r"shared[-_]slice[-_]known\d*$", field)
+        if known and more[:1] == ["given"]:
+            here = at
+            while here is not None and norm(places.step[here][0]) != norm(field):
+                here = places.parent.get(here)
+            left.append(f"{where}: {m.group(0)}: c.type_inv.NAME with the slice's name")
         more = places.parts(at, field, more)
         if more[:1] == ["ensures"]:
             here = at
@@ -316,6 +324,9 @@ def paths(body, place, places, left, where):
         if new is None and field.endswith("_lem"):
             # the spelling took the step for a lemma
             new = places.find(at, field[: -len("_lem")])
+        if new is None:
+            # a lemma's spelling (tools/spelling.json) of a call's name
+            new = places.find(at, re.sub(r"_lem$", "", field)) or places.find(at, field.lower())
         if new is None:
             if field in places.args:
                 return "c." + places.args[field] + "".join("." + x for x in more)

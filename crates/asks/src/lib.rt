@@ -1,5 +1,8 @@
 // What the words behind the name of the program `desk` ask: a verb, and for `day` a number; the five numbers behind `calendar`
 // are asked one at a time. Takes any words. An inner room of that program; specs/Asks states it.
+
+#![tactic(auto)]
+
 ghost use Rattle.std.specs.Prelude.{◌≡◌, ◌&&◌, not, ◌≤◌, ◌^◌, eqb, ltb};
 ghost use Rattle.numbers.specs.Fits.{All, IsByte};
 ghost use Rattle.values.specs.Inside.{fresh, with, with_all};

@@ -5,6 +5,7 @@ use Prim.Native.Nat.{ℕ, suc, ◌+◌, ◌-◌, ◌≤◌, ◌<◌}
 use native.Mathlib.Omega.{arith}
 use lib.ListN.{length, take, drop, set, length-append, length-drop, drop_of_length-le, take-append-drop}
 use lib.Seq.{paste, length-take-le, take_at, drop_at, set_split, drop-drop, drop-cons, drop-set-add, take-set-le, take_all, take-length}
+use borrow.Rule.Slice.PartMut.{put_mid}
 use Rattle.buffers.specs.Inside.{laid, Room, Laid}
 
 -- what has been put in has the length that was there
@@ -87,13 +88,9 @@ laid_one out at d h =
 
 -- ---- a text that is copied
 
--- a part from `at` on whose front is overwritten
-pub overwritten : (out part t : List ℕ) (at : ℕ) → at + length t ≤ length out
-    → part ≡ take (length t) t ++ drop (length t) (take (length out - at) (drop at out))
-    → take at out ++ (part ++ drop (length out - at) (drop at out)) ≡ laid out at t
-overwritten out part t at h f =
-    let l : length (drop at out) ≤ length out - at = omega (arith, length-drop at out) in
-    rw (f, take-length t, take_all (length out - at) (drop at out) l, drop_of_length-le (drop at out) l, drop-drop (length t) at out, append-nil)
+-- a part in the middle that is overwritten whole
+pub overwritten : (out part t : List ℕ) (at k : ℕ) → k ≡ length t → part ≡ t → put_mid at k out part ≡ laid out at t
+overwritten out part t at k h f = rw (h, f, drop-drop (length t) at out)
 
 -- what is put in is what is pasted
 pub laid_paste : (out : List ℕ) (at : ℕ) (t : List ℕ) → laid out at t ≡ paste out at t (length t)

@@ -1,5 +1,8 @@
 // A line of a sheet from the growers' office by what is kept of its six columns: its record, or the number that it is refused with. Document
 // 02, §1; what a column says is told by `values`. An inner room: it serves `office`.
+
+#![tactic(auto)]
+
 ghost use Rattle.std.specs.Prelude.{◌≡◌};
 ghost use Rattle.cells.specs.Rows.{readable_in, record_in, line_by};
 

@@ -2,6 +2,9 @@
 // has it. Document 02, §1; specs/ states it for one line. A byte is never looked at before it comes, so a text may come in pieces:
 // a CR is kept as one until the byte behind it. What a field says comes from the room below, `values`. An inner room: it serves
 // `office`. Nothing is asked of a caller.
+
+#![tactic(auto)]
+
 ghost use Rattle.std.specs.Prelude.{◌≡◌, drop};
 ghost use Rattle.fields.specs.Quoting.{bare_act, quoted_act, closed_act, act_of};
 ghost use Rattle.fields.specs.Inside.{beginning, is_at_begin, end_step, behind_cr, kept, step_of, may_end, walk_from};

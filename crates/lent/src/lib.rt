@@ -2,6 +2,9 @@
 // `judge` takes the list as it is lent, a slice of structs: it goes down the list and leaves the work to functions on plain
 // values. `judge_list` lends it one. These two are proved by hand. Every open function takes any plan, any board and any
 // list and answers.
+
+#![tactic(auto)]
+
 ghost use Rattle.std.specs.Prelude.{◌≡◌, min, take};
 ghost use Rattle.lent.specs.Judgement.{judge_of};
 ghost use Rattle.lent.specs.Inside.{begun_of, goes_on, answer_after, judged_after, list_room};

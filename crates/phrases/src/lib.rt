@@ -1,6 +1,9 @@
 // Phrases of a listing: one word from a place in a text on, the end of a line, and what a word says: a kind, a number that its place
 // holds, `none`, a set of points. Texts may be any bytes, of any length, and nothing is asked of a caller. No byte is copied: what is
 // kept of a word while its bytes go by is a small struct. An inner room: it serves `listing`.
+
+#![tactic(auto)]
+
 ghost use Rattle.std.specs.Prelude.{◌≡◌, ◌+◌, ◌%◌, ◌^◌, ◌<◌, drop};
 ghost use Rattle.phrases.specs.Phrases.{begins_lf};
 ghost use Rattle.phrases.specs.Inside.{below_in, fresh_word, ended, pointed, with_byte, blank_by, ends_by, blanks_from, word_from, line_end};

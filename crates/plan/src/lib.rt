@@ -2,6 +2,9 @@
 // 1 to 12; specs/ states them in that order, the reader and the writer of plan files too, whose code is `plan_file`. Records, the rules for one
 // record and signed numbers come from the rooms below, `records`, `rules` and `numbers`, and what callers need of them is
 // handed on here. Every open function takes any plan and answers; none asks anything of its caller.
+
+#![tactic(auto)]
+
 ghost use Rattle.std.specs.Prelude.{◌≡◌, [], min};
 ghost use Rattle.plan.specs.Limits.{most_records};
 ghost use Rattle.plan.specs.APlan.{plan_of, records_of, how_many, points, links, ends_at, watched, place_of};

@@ -3,6 +3,9 @@
 // `Ending`s, and the points that ordinary records lead to in a set for each point that they lead from, so that a record is
 // tested in a few steps, however many came before it. An inner room: it serves `plan`, which tests record after record, and
 // `read_one` asks that no more were seen than a plan has room for.
+
+#![tactic(auto)]
+
 ghost use Rattle.std.specs.Prelude.{◌≡◌};
 ghost use Rattle.points.specs.Sets.{with_of};
 ghost use Rattle.numbers.specs.Choice.{if◌then◌else◌};

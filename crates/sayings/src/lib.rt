@@ -1,5 +1,8 @@
 // What a line of a listing says, by what is kept of its words: a record of a plan, the mark, an event, nothing; or what was expected.
 // And the sixteen bytes of it. specs/Sayings states it. An inner room: it serves `listing`. Nothing is asked of a caller.
+
+#![tactic(auto)]
+
 ghost use Rattle.std.specs.Prelude.{◌≡◌};
 ghost use Rattle.values.specs.Inside.{value_in};
 ghost use Rattle.sayings.specs.Sayings.{first_of, point_record, link_record, ordinary_record, wait_record};

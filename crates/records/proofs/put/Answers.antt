@@ -1,24 +1,20 @@
 -- `records::put` meets its contract. Assumes nothing.
-use borrow.Author.Rules.{rules}
-use mathlib.Core.Path.{◌≡◌, sym}
-use mathlib.Core.List.{List, ◌++◌, append-nil, append_assoc}
 use native.Mathlib.Omega.{arith}
-use Prim.Native.Nat.{ℕ, ◌+◌, ◌-◌, ◌≤◌}
-use lib.ListN.{take, drop, length, length-drop, drop_of_length-le}
+use mathlib.Core.Path.{◌≡◌, sym}
+use mathlib.Core.List.{List, append_assoc}
+use Prim.Native.Nat.{ℕ, ◌+◌, ◌-◌}
+use borrow.Rule.Slice.PartMut.{put_mid}
+use lib.ListN.{length, take, drop}
 use lib.Seq.{paste, take_all, drop-drop}
 use Rattle.records.specs.Limits.{record_bytes}
 use Rattle.records.proofs.put.Goals as goal
 
--- a part from `at` on whose front is overwritten
-overwritten : (out part e : List ℕ) (at n : ℕ) → at + n ≤ length out → part ≡ take n e ++ drop n (take (length out - at) (drop at out))
-    → take at out ++ (part ++ drop (length out - at) (drop at out)) ≡ paste out at e n
-overwritten out part e at n h f =
-    let l : length (drop at out) ≤ length out - at = omega (arith, length-drop at out) in
-    rw (f, take_all (length out - at) (drop at out) l, drop_of_length-le (drop at out) l, drop-drop n at out, append-nil)
-    (sym (append_assoc (take at out) (take n e) (drop (at + n) out)))
+-- a part in the middle that is overwritten whole
+overwritten : (out part e : List ℕ) (at k n : ℕ) → k ≡ n → length e ≡ n → part ≡ e → put_mid at k out part ≡ paste out at e n
+overwritten out part e at k n h l f = rw (h, f, take_all n e (omega arith), drop-drop n at out) (sym (append_assoc (take at out) e (drop (at + n) out)))
 
 pub returns : goal.returns
 returns c =
     let s = c.args in
     let n : length s.e ≡ record_bytes = omega arith in
-    rw n at (overwritten s.out.now c.copy.new.1.0 s.e s.at (length s.e) (omega arith) c.copy.ensures.1)
+    overwritten s.out.now _ s.e s.at _ record_bytes (omega arith) n c.copy_from_slice.ensures.after

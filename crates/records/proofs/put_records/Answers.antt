@@ -24,7 +24,7 @@ loop-i-preserved c =
     let n : length rs ≡ s.count = length-take-le s.count s.records (omega arith) in
     let h : k < s.count = c.loop-i-test.true in
     let r : get_or rs k blank ≡ get_or s.records k blank = get_or-take s.count s.records k blank h in
-    (omega arith, i.1, i.2, i.3, c.put.auto.0 ∙ i.4, rw (c.put.ensures, c.bytes_of.ensures, ← r, i.5) (put_more rs k s.out.now (omega (arith, n))))
+    (omega arith, i.1, i.2, i.3, c.put.auto.out ∙ i.4, rw (c.put.ensures, c.bytes_of.ensures, ← r, i.5) (put_more rs k s.out.now (omega (arith, n))))
 
 pub returns : goal.returns
 returns c =

@@ -4,5 +4,8 @@ use Rattle.buffers.proofs.ending.behind.Goals as goal
 
 pub returns : goal.returns
 returns c =
-    let e = c.within-n.ensures.1 in
-    (rw e at c.append.ensures.0, rw e at c.append.ensures.1)
+    let e = c.within-n.ensures.least in
+    record {
+      place = rw e at c.append.ensures.place;
+      bytes = rw e at c.append.ensures.bytes;
+    }

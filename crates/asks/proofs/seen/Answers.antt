@@ -1,0 +1,22 @@
+-- `asks::seen` meets its contract. Assumes nothing.
+use borrow.Author.Rules.{rules}
+use Prim.Native.Nat.{◌-◌}
+use lib.ListN.{length}
+use Rattle.asks.proofs.Passing.{Known, known_none, known_more, known_all}
+use native.Mathlib.Omega.{arith}
+use Rattle.asks.proofs.seen.Reads as reads
+use Rattle.asks.proofs.seen.Lts as lts
+use Rattle.asks.proofs.with_byte.Reads as with-byte-reads
+use Rattle.values.proofs.Seen.none.Reads as none_reads
+use Rattle.asks.proofs.seen.Goals as goal
+
+pub loop-i-init : goal.loop-i-init
+loop-i-init c = rw c.none-s.ensures (known_none _)
+
+pub loop-i-preserved : goal.loop-i-preserved
+loop-i-preserved c =
+    let k = c.loop-i.invariant in
+    rw c.with_byte-s.ensures.0 (known_more _ _ _ (omega arith) k c.with_byte-s.ensures.1)
+
+pub returns : goal.returns
+returns c = known_all _ _ _ c.loop-i.invariant (omega arith)

@@ -1,0 +1,7 @@
+-- `fields::Spot::begin` meets its contract. Assumes nothing.
+use native.Mathlib.Omega.{arith}
+use borrow.Author.Rules.{rules}
+use Rattle.fields.proofs.Spot.begin.Goals as goal
+
+pub returns : goal.returns
+returns c = rw c.none-none.ensures

@@ -1,0 +1,6 @@
+-- `phrases::Word::is_set` meets its contract. Assumes nothing.
+use borrow.Author.Rules.{rules}
+use Rattle.phrases.proofs.Word.is_set.Goals as goal
+
+pub returns : goal.returns
+returns c = rw (c.is_none.ensures, c.ended-e.ensures)

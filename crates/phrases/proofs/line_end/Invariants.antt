@@ -1,0 +1,15 @@
+-- `phrases::line_end` meets its contract. Assumes nothing.
+use borrow.Author.Rules.{rules}
+use native.Mathlib.Omega.{arith}
+use mathlib.Core.Path.{◌≡◌, refl, ◌∙◌}
+use Prim.Native.Nat.{◌-◌}
+use lib.ListN.{length, drop}
+use Rattle.phrases.specs.Inside.{line_end}
+use Rattle.phrases.proofs.Turning.{line_past, line_stop, line_on}
+use Rattle.phrases.proofs.line_end.Given as goal
+
+abbrev pub invariant-loop-i : goal.invariant-loop-i
+invariant-loop-i l = (l.n ≡ length l.text) × (line_end l.i (drop l.i l.text) ≡ line_end l.at (drop l.at l.text))
+
+abbrev pub decreases-loop-i : goal.decreases-loop-i
+decreases-loop-i l = l.n - l.i

@@ -1,0 +1,6 @@
+-- `plan::refuse` meets its contract. Assumes nothing.
+use borrow.Author.Rules.{rules}
+use Rattle.plan.proofs.refuse.Goals as goal
+
+pub returns : goal.returns
+returns c = rw c.empty-plan.ensures

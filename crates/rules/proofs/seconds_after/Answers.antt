@@ -1,0 +1,6 @@
+-- `rules::seconds_after` meets its contract. Assumes nothing.
+use borrow.Author.Rules.{rules}
+use Rattle.rules.proofs.seconds_after.Goals as goal
+
+pub returns : goal.returns
+returns c = c.with_if.ensures

@@ -1,0 +1,9 @@
+-- `sayings::wrong` meets its contract. Assumes nothing.
+use borrow.Author.Rules.{rules}
+use Rattle.sayings.proofs.wrong.Goals as goal
+
+pub returns-then-holds : goal.returns-then-holds
+returns-then-holds c = rw (← c.holds.ensures, c.if-holds.true)
+
+pub returns-else-holds : goal.returns-else-holds
+returns-else-holds c = rw (← c.holds.ensures, c.if-holds.false)

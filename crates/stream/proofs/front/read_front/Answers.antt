@@ -6,4 +6,4 @@ use Rattle.stream.proofs.front.read_front.Goals as goal
 pub returns : goal.returns
 returns c =
     let s = c.args in
-    part_read s.length s.front.now c.read.ensures c.within-n.ensures.1 c.shown.ensures
+    part_read s.length s.front.now c.read.ensures c.within-n.ensures.least c.shown.ensures

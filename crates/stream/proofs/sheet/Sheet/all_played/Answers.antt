@@ -8,6 +8,6 @@ returns c =
     let s = c.args in
     let t = c.take_all-reply.ensures in
     record {
-      sheet = all_played_by s.self s.events.now s.room.now t.reply c.fewer-n.ensures c.wrapping_add_u64.ensures;
+      sheet = all_played_by s.self s.events.now s.room.now t.reply c.fewer-n.ensures c.wrapping_add_u64.ensures.value;
       room = t.room;
     }

@@ -6,4 +6,4 @@ use Rattle.stream.proofs.sheet.Sheet.played.Goals as goal
 pub returns : goal.returns
 returns c =
     let s = c.args in
-    played_by s.self s.event.now c.take-reply.ensures c.wrapping_add_u64.ensures
+    played_by s.self s.event.now c.take-reply.ensures c.wrapping_add_u64.ensures.value

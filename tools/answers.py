@@ -310,6 +310,10 @@ def paths(body, place, places, left, where):
             here = at
             while here is not None and norm(places.step[here][0]) != norm(field):
                 here = places.parent.get(here)
+            if here is None:
+                here = place
+                while here is not None and norm(places.step[here][0]) != norm(field):
+                    here = places.parent.get(here)
             names = named_clauses(places.callee.get(here) or "", "ensures") if here else []
             more = ["ensures", *part_of(names, more[1:])]
         arm = places.in_arm(place, at, field, more)
@@ -441,6 +445,8 @@ def convert(crate, name, d):
             names = named_clauses(called.get(m.group(2)) or "", "ensures")
             if len(names) > 1 and all(names):
                 rest = re.sub(r"(?<![\w'.\-])" + re.escape(m.group(1)) + r"\.ensures((?:\.[01])+)(?![\w])", lambda k: m.group(1) + ".ensures" + "".join("." + x for x in part_of(names, k.group(1).split(".")[1:])), rest)
+        # a method of std names its clause
+        rest = re.sub(r"(c\.wrapping_\w+_u\w+(?:-\w+)?\.ensures)(?!\.)", r"\1.value", rest)
         # how long an array field is stands in a value's type as it is
         rest = re.sub(r"rw length-map at (\w+(?:\.\w+)+)", r"\1", rest)
         before = rest

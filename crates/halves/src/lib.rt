@@ -1,5 +1,8 @@
 // An answer as one number of 64 bits, for programs in other languages: the reply number in the lower half, and what stands beside it in the
 // upper half. An inner room: it serves `told`, `filed` and the others up to `ponds`, which also take from here what is answered of a plan file.
+
+#![tactic(auto)]
+
 ghost use Rattle.std.specs.Prelude.{◌≡◌};
 ghost use Rattle.halves.specs.Answers.{answer_of, answer_with, half_of};
 

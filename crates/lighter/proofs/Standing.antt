@@ -141,7 +141,7 @@ stands {rs} {qs} {ds} g p =
       none_left = λ ks more r e m. none_still g p ks more r (omega arith) e m;
       untouched = stays_others stays;
       back = all_back stays;
-      in_order_lem = all_rising stays;
+      in_order = all_rising stays;
       kept = λ ω h k. let b = stays_bounds stays [] k.within in edges_keep b (covered h (l.covers ω b) (keeps_edges k));
       still_kept = λ ω h k. edges_keep (bounds_stay stays [] k.within) (λ X Y u d e. keeps_edges k X Y u d (stays_edges stays [] X Y u d e));
     }

@@ -13,7 +13,7 @@ use Rattle.points.specs.Sets.{member, with_of}
 use Rattle.phrases.specs.Phrases.{cut, filled, without_crs, begins_lf, uncommented, kind_of, are_points, set_from}
 use Rattle.records.specs.Bytes.{bytes_of}
 use Rattle.sayings.specs.Sayings.{expected, holds, first_wrong, said_by, row_of}
-use Rattle.listing.specs.Listing.{Outcome, outcome, outcome_of, all_said, packed, written}
+use Rattle.listing.specs.Listing.{outcome, outcome_of, all_said, packed, written}
 use Rattle.listing.specs.declared.Packed.{Packed}
 
 infix 70 ◌gives◌at◌long◌

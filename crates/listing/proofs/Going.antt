@@ -3,13 +3,13 @@
 use mathlib.Core.Path.{◌≡◌, refl, sym, ap, ◌∙◌}
 use mathlib.Core.Bool.{Bool, true, false, not}
 use mathlib.Core.List.{List, [], ◌∷◌, ◌++◌, append-nil, append_assoc}
-use Prim.Native.Nat.{ℕ, zero, suc, ◌+◌, ◌*◌, ◌-◌, ◌≤◌, ◌<◌}
+use Prim.Native.Nat.{ℕ, zero, suc, ◌+◌, ◌*◌, ◌≤◌, ◌<◌}
 use native.Mathlib.Omega.{arith}
 use native.Mathlib.Numerals.{add-one}
 use lib.Dec.{eqb, ltb}
 use lib.ListN.{length, take, drop, length-append, length-drop, drop_of_length-le}
 use lib.Seq.{paste, drop-length, drop-drop, take_all, take_at, drop-append-add}
-use borrow.Author.Tests.{ne_eqb, eqb-false, ltb-true, ltb-false, lt-ltb, le-ltb}
+use borrow.Author.Tests.{eqb-false, lt-ltb, le-ltb}
 use Rattle.numbers.specs.Choice.{if◌then◌else◌}
 use Rattle.records.specs.Limits.{record_bytes}
 use Rattle.records.specs.Bytes.{bytes_of}
@@ -20,12 +20,10 @@ use Rattle.sayings.specs.Sayings.{Row, bad, good, unless_wrong, expected, first_
 use Rattle.sayings.specs.Inside.{as_told}
 use Rattle.sayings.specs.declared.Said.{Said}
 use Rattle.sayings.specs.declared.Said.TheVariants.{Nothing, Plan, Mark, Event}
-use Rattle.listing.specs.Listing.{line_row, bytes_said, Outcome, refused, listed, in_front, behind, outcome, outcome_of, all_said, is_short, answer, packed, written, a_longer_buffer}
-use Rattle.listing.specs.Inside.{line_by, line_at, one_if, scanned, full_bytes, put_of}
+use Rattle.listing.specs.Listing.{line_row, bytes_said, Outcome, refused, listed, in_front, behind, outcome, outcome_of, all_said, answer, packed, written, a_longer_buffer}
+use Rattle.listing.specs.Inside.{line_at, one_if, scanned, put_of}
 use Rattle.listing.specs.declared.Line.{Line}
 use Rattle.listing.specs.declared.Gone.{Gone}
-use Rattle.listing.specs.declared.Packed.{Packed}
-use Rattle.listing.proofs.AText.{octal}
 
 -- ---- numbers of bad lines
 

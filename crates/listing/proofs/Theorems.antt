@@ -1,18 +1,17 @@
 -- What is promised of a packed listing holds. Assumes nothing.
 use mathlib.Core.Path.{◌≡◌, refl, sym, ap, ◌∙◌}
 use mathlib.Core.Bool.{Bool, true, false, not}
-use mathlib.Core.List.{List, [], ◌∷◌, ◌++◌, map}
-use Prim.Native.Nat.{ℕ, zero, suc, ◌+◌, ◌*◌, ◌-◌, ◌≤◌, ◌<◌}
+use mathlib.Core.List.{List, [], ◌∷◌, map}
+use Prim.Native.Nat.{ℕ, zero, suc, ◌+◌, ◌-◌, ◌≤◌, ◌<◌}
 use native.Mathlib.Omega.{arith}
-use lib.Dec.{eqb, ltb}
-use lib.ListN.{length, get_or, drop}
-use borrow.Author.Tests.{ne_eqb, eqb-true, eqb-false, ltb-false}
+use lib.Dec.{eqb}
+use lib.ListN.{length, get_or}
+use borrow.Author.Tests.{ne_eqb}
 use Rattle.numbers.specs.Choice.{if◌then◌else◌}
-use Rattle.records.specs.Limits.{record_bytes}
-use Rattle.sayings.specs.Sayings.{kind_of, expected, first_wrong, said_by, unless_wrong, row_of}
+use Rattle.sayings.specs.Sayings.{kind_of, expected, first_wrong, said_by, row_of}
 use Rattle.sayings.specs.declared.Said.{Said}
-use Rattle.sayings.specs.declared.Said.TheVariants.{Nothing, Plan, Mark, Event}
-use Rattle.listing.specs.Listing.{lines_of, words_of, Row, bad, good, line_row, Outcome, refused, listed, in_front, behind, outcome, outcome_of, all_said, is_short, packed, written, a_set}
+use Rattle.sayings.specs.declared.Said.TheVariants.{Nothing}
+use Rattle.listing.specs.Listing.{lines_of, words_of, Row, bad, good, line_row, Outcome, refused, listed, in_front, behind, outcome, outcome_of, is_short, packed, written, a_set}
 use Rattle.listing.proofs.Going.{bad_some, outcome_by, outcome_end}
 use Rattle.listing.specs.Promised.{worded, Packs, OneForEachLine, NothingUnlessGood, IsGood, Stops, FirstBadLine}
 

@@ -5,7 +5,6 @@ use mathlib.Core.List.{List, [], ◌∷◌, append-nil}
 use Prim.Native.Nat.{ℕ, ◌^◌, ◌<◌}
 use native.Mathlib.Omega.{arith}
 use lib.Dec.{eqb, ltb}
-use lib.IntN.{ℤ, pos}
 use lib.ListN.{length}
 use lib.Signed.{mag}
 use borrow.Author.Tests.{eqb-true, ltb-true}
@@ -13,7 +12,6 @@ use Rattle.numbers.specs.Choice.{if◌then◌else◌}
 use Rattle.numbers.proofs.Words.{word_back}
 use Rattle.records.specs.Bytes.{record_in, bytes_of}
 use Rattle.records.specs.Held.{Held}
-use Rattle.records.specs.declared.Record.{Record}
 use Rattle.records.proofs.Bytes.{record_back}
 use Rattle.values.specs.Values.{is_empty, all_digits}
 use Rattle.values.proofs.Tests.{both}
@@ -22,11 +20,11 @@ use Rattle.points.specs.Sets.{with_of}
 use Rattle.points.proofs.Laws.{with_fits}
 use Rattle.phrases.specs.Phrases.{is_comma, cut, is_none, set_from}
 use Rattle.sayings.specs.Sayings.{a_point, a_number, a_count, a_point_or_none, a_set, expected, holds, first_wrong, point_record, link_record, ordinary_record, wait_record, word, said_by, row_of}
-use Rattle.sayings.specs.Sayings.{Row, bad, good, kind_of, is_below, value_of, number_of, point_or_none, set_of}
+use Rattle.sayings.specs.Sayings.{bad, good, kind_of, is_below, value_of, number_of, point_or_none, set_of}
 use Rattle.sayings.specs.declared.Said.{Said}
 use Rattle.sayings.specs.declared.Said.TheVariants.{Nothing, Plan, Mark, Event}
 use Rattle.sayings.proofs.Telling.{Each, each_holds, few}
-use Rattle.listing.specs.Listing.{words_of, line_row, bytes_said}
+use Rattle.listing.specs.Listing.{words_of}
 use Rattle.listing.proofs.Theorems.{no, row_code, row_said}
 use Rattle.listing.specs.Promised.{ReadAsTyped, NoOtherRecord, EventAsTyped}
 

@@ -13,7 +13,7 @@ use Rattle.numbers.specs.Fits.{All, IsByte}
 use Rattle.values.specs.Values.{is_empty}
 use Rattle.values.specs.declared.Seen.{Seen}
 use Rattle.phrases.specs.Phrases.{cut, filled, uncommented}
-use Rattle.phrases.specs.Inside.{fresh_word, with_bytes, line_end, first_line}
+use Rattle.phrases.specs.Inside.{fresh_word, line_end, first_line}
 use Rattle.phrases.specs.declared.Word.{Word}
 use Rattle.phrases.specs.declared.Found.{Found}
 use Rattle.phrases.proofs.Reading.{first_words, found, Next, next_word}

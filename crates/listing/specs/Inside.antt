@@ -1,8 +1,7 @@
 -- How the functions behind `pack` go over the text, line by line. A reader of the rules can leave this page out: the open function's
 -- contract does not cite it. Assumes nothing.
-use Rattle.std.specs.Prelude.{Bool, true, false, List, [], ℕ, length, replicate}
+use Rattle.std.specs.Prelude.{List, ℕ, length, replicate}
 use Rattle.std.proofs.Math.Seq.{paste}
-use Rattle.numbers.specs.Choice.{if◌then◌else◌}
 use Rattle.records.specs.Limits.{record_bytes}
 use Rattle.phrases.specs.Inside.{line_end, first_line}
 use Rattle.sayings.specs.Inside.{as_told}

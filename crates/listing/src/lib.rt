@@ -1,6 +1,9 @@
 // A listing typed by people as the bytes that the programs read: a record of sixteen bytes for each line that has words, nothing
 // unless every line is good. specs/Listing states it. `pack` goes over the text twice, line by line, and copies none of it: first it
 // looks for a bad line and counts the records, then it writes them. It takes any bytes, of any length, and any buffer.
+
+#![tactic(auto)]
+
 ghost use Rattle.std.specs.Prelude.{◌≡◌, ◌+◌, ◌*◌, ◌≤◌, min, eqb, length, drop};
 ghost use Rattle.records.specs.Limits.{record_bytes};
 ghost use Rattle.listing.specs.Listing.{outcome_of, bytes_said, answer, written, answer_of, buffer_of};

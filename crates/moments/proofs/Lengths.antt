@@ -8,7 +8,6 @@ use Rattle.values.specs.Ascii.{ascii}
 use Rattle.lines.specs.Text.{decimal}
 use Rattle.moments.specs.Event.{line, uid_line, stamp_line, start_line, summary_line, event_text, event_length}
 use Rattle.moments.specs.Inside.{moment_bytes}
-use Rattle.moments.proofs.ACase.{an_event}
 
 pub line_long : (t : List ℕ) → length (line t) ≡ length t + 2
 line_long t = length-append t (13 ∷ 10 ∷ [])

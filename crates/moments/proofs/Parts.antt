@@ -7,7 +7,6 @@ use Rattle.lines.specs.Text.{decimal}
 use Rattle.buffers.specs.Inside.{Room, Laid}
 use Rattle.buffers.proofs.Laying.{room_first}
 use Rattle.moments.specs.Event.{line, uid_line, stamp_line, start_line, summary_line, event_text}
-use Rattle.moments.proofs.ACase.{an_event}
 
 -- ---- UID: the name with the number, then the hyphen with the moment
 

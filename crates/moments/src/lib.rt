@@ -1,5 +1,8 @@
 // The lines of an iCalendar event, into a buffer from a place on. Document 02, §10; specs/Event states them. An inner room:
 // it serves `calendar`. What puts text into the buffer asks that there is room for it, and answers the place behind it.
+
+#![tactic(auto)]
+
 ghost use Rattle.std.specs.Prelude.{◌≡◌, ◌++◌};
 ghost use Rattle.moments.specs.Event.{line, moment_text, uid_line, summary_line, event_text, event_length};
 ghost use Rattle.buffers.specs.Inside.{Room, Laid};

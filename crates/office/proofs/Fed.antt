@@ -2,13 +2,13 @@
 -- that are still to come, gives the whole answer; each byte keeps that. Assumes nothing.
 use mathlib.Core.Path.{◌≡◌, refl, sym, ap, ◌∙◌}
 use mathlib.Core.Bool.{Bool, true, false, ◌&&◌, ◌||◌, not}
-use mathlib.Core.List.{List, [], ◌∷◌, ◌++◌, map}
-use Prim.Native.Nat.{ℕ, suc, ◌+◌, ◌-◌, ◌%◌, ◌≤◌, ◌<◌, min}
+use mathlib.Core.List.{List, [], ◌∷◌, ◌++◌}
+use Prim.Native.Nat.{ℕ, suc, ◌+◌, ◌<◌, min}
 use native.Mathlib.Omega.{arith}
 use lib.Dec.{eqb}
-use lib.ListN.{length, set, drop, get_or, replicate, length-append}
+use lib.ListN.{length, drop, get_or, replicate, length-append}
 use lib.Seq.{append_snoc}
-use borrow.Author.Tests.{eq-eqb, ne_eqb, eqb-true, eqb-false}
+use borrow.Author.Tests.{ne_eqb, eqb-true, eqb-false}
 use Rattle.numbers.specs.Choice.{if◌then◌else◌}
 use Rattle.numbers.specs.Fits.{All, IsByte}
 use Rattle.records.specs.Records.{blank}
@@ -18,7 +18,7 @@ use Rattle.plan.specs.Limits.{most_records}
 use Rattle.plan.specs.ReplyNumbers.{refusal}
 use Rattle.values.specs.Inside.{fresh, with, with_all}
 use Rattle.values.specs.declared.Seen.{Seen}
-use Rattle.fields.specs.Quoting.{Columns, broken, columns, quote, comma, cr, lf, is_break, with_byte, with_field, acted, behind, bare_act, act_of, last_field, fields_from}
+use Rattle.fields.specs.Quoting.{Columns, broken, columns, quote, comma, cr, lf, is_break, with_byte, with_field, bare_act, act_of, fields_from}
 use Rattle.fields.specs.Inside.{ends_line, is_begin, is_quoted, end_step, kept, act_step, step_of}
 use Rattle.fields.specs.declared.Place.{Place}
 use Rattle.fields.specs.declared.Place.TheVariants.{Begin, Bare, Quoted, Closed}
@@ -26,7 +26,7 @@ use Rattle.fields.specs.declared.Act.{Act}
 use Rattle.fields.specs.declared.Act.TheVariants.{Keep, Skip, Cut, Break}
 use Rattle.fields.specs.declared.Step.TheVariants.{Broken}
 use Rattle.office.specs.Sheets.{Row, bad, good, row_of, rows_of, pieces, without_rest, lines_of, refused, import_rows, import_of}
-use Rattle.office.specs.Inside.{first_line, end_from, as_line, line_by, judged}
+use Rattle.office.specs.Inside.{first_line, end_from, as_line, line_by}
 use Rattle.office.specs.Feeding.{line_begins, begun, stopped, counted, cells_with, lined, stepped, fed_byte, fed_of, fed_all, joined_text, last_of, answered, finished_of}
 use Rattle.office_text.specs.declared.Feeding.{Feeding}
 use Rattle.office.specs.declared.Imported.{Imported}

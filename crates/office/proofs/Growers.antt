@@ -4,7 +4,7 @@
 use mathlib.Core.Path.{◌≡◌, refl, sym, ap, ◌∙◌}
 use mathlib.Core.Bool.{Bool, true, false, ◌&&◌, not}
 use mathlib.Core.List.{List, [], ◌∷◌, ◌++◌, map, append-nil}
-use Prim.Native.Nat.{ℕ, zero, suc, ◌+◌, ◌-◌, ◌≤◌, ◌<◌}
+use Prim.Native.Nat.{ℕ, zero, suc, ◌+◌, ◌≤◌, ◌<◌}
 use native.Mathlib.Omega.{arith}
 use lib.Dec.{eqb}
 use lib.ListN.{length, get_or, length-append, length-map}
@@ -17,9 +17,7 @@ use Rattle.values.proofs.Fit.{kind_fits, point_fits, number_fits, code_fits}
 use Rattle.records.specs.Records.{blank}
 use Rattle.records.specs.Held.{Held}
 use Rattle.records.specs.declared.Record.{Record}
-use Rattle.plan.specs.Limits.{most_records}
 use Rattle.plan.specs.APlan.{plan_of, records_of}
-use Rattle.plan.specs.Held.{HeldPlan}
 use Rattle.plan.specs.ReplyNumbers.{refusal, check_of}
 use Rattle.plan.proofs.Holding.{plan_held}
 use Rattle.plan.proofs.RoundTrip.{records_of_plan, checked_count, names_no_place, reads_as_checked, written_reads_whole}

@@ -1,10 +1,10 @@
 -- A line by what is kept of its columns is the line. Assumes nothing.
-use mathlib.Core.Path.{◌≡◌, refl, sym, ap, ◌∙◌}
+use mathlib.Core.Path.{◌≡◌, refl, sym, ap}
 use mathlib.Core.Bool.{Bool, true, false, ◌&&◌, not}
 use mathlib.Core.List.{List, [], ◌∷◌, ◌++◌, map, map-append}
-use Prim.Native.Nat.{ℕ, suc, ◌+◌, ◌-◌, ◌%◌, ◌≤◌, ◌<◌, min}
+use Prim.Native.Nat.{ℕ, ◌+◌, ◌-◌, ◌%◌, ◌≤◌, min}
 use native.Mathlib.Omega.{arith}
-use lib.ListN.{length, set, replicate, length-map, length-append}
+use lib.ListN.{length, replicate, length-map, length-append}
 use borrow.Author.Tests.{ne_eqb}
 use Rattle.numbers.specs.Choice.{if◌then◌else◌}
 use Rattle.numbers.specs.Fits.{All, IsByte}

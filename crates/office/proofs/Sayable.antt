@@ -3,7 +3,7 @@
 use mathlib.Core.Path.{◌≡◌, refl, sym, ap, ◌∙◌}
 use mathlib.Core.Bool.{Bool, true, false}
 use mathlib.Core.List.{List, [], ◌∷◌, ◌++◌, map, append-nil}
-use Prim.Native.Nat.{ℕ, zero, suc, ◌+◌, ◌-◌, ◌/◌, ◌%◌, ◌^◌, ◌≤◌, ◌<◌}
+use Prim.Native.Nat.{ℕ, zero, suc, ◌+◌, ◌/◌, ◌%◌, ◌^◌, ◌≤◌, ◌<◌}
 use native.Mathlib.Omega.{arith}
 use lib.Dec.{eqb, leb}
 use lib.IntN.{ℤ, pos, negsuc}
@@ -16,7 +16,7 @@ use Rattle.numbers.specs.Fits.{All}
 use Rattle.values.specs.Values.{is_empty, is_digit, all_digits, value_from, is_number, number_of, is_point, point_of, is_code, code_of, same, is_kind, kind_of}
 use Rattle.values.proofs.Tells.{digits_snoc, value_snoc}
 use Rattle.values.proofs.Digits.{digit_is, digits_unsigned, number_up, number_down}
-use Rattle.fields.specs.Quoting.{columns, quote, comma, cr, lf, act_of, with_field, fields_from, fields_of}
+use Rattle.fields.specs.Quoting.{columns, comma, cr, lf, act_of, with_field, fields_from, fields_of}
 use Rattle.fields.specs.declared.Place.TheVariants.{Begin, Bare}
 use Rattle.fields.specs.declared.Act.TheVariants.{Keep}
 use Rattle.office.specs.Sheets.{begins_lf, before, pieces, without_rest, lines_of, good, readable, record_of, row_of, rows_of, taken, read_as, import_rows, import_of}

@@ -1,6 +1,9 @@
 // Sheets from the growers' office: comma-separated text as a plan. Document 02, §1; specs/ states it in that order. A text may come
 // in pieces, cut anywhere: `begin`, `feed` for each piece, `finish`; `import` takes one that is there whole. What is known of a text
 // that has come so far is told by `office_text`. The rules for records are those of the file reader, asked of `plan`.
+
+#![tactic(auto)]
+
 ghost use Rattle.std.specs.Prelude.{◌≡◌, [], ◌+◌, min, set};
 ghost use Rattle.plan.specs.APlan.{plan_of};
 ghost use Rattle.plan.specs.ReplyNumbers.{refusal};

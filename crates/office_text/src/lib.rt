@@ -2,6 +2,9 @@
 // a last line that lacks its CR LF. Document 02, §1; where a text is in a field is told by `fields`, and what a whole line says by `cells`.
 // Each byte is looked at once, and none is copied; any bytes are taken, of any length, in a room that does not grow. An inner room: it
 // serves `office`, which hands on `begin` and `feed`. Nothing is asked of a caller.
+
+#![tactic(auto)]
+
 ghost use Rattle.std.specs.Prelude.{◌≡◌, ◌+◌, min};
 ghost use Rattle.office_text.specs.Feeding.{line_by, line_number, begun, line_begins, stopped, cells_with, fed_of, last_of};
 

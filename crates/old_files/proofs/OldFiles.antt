@@ -14,7 +14,7 @@ use Rattle.plan.specs.Choice.{if◌then◌else◌}
 use Rattle.plan.specs.Limits.{most_ordinary, records_with, record_bytes}
 use Rattle.plan.specs.APlan.{Kind, point, link, ordinary, wait, unknown, kind_of, is, one, how_many, blank}
 use Rattle.plan.specs.PlanFile.{Entry}
-use Rattle.plan.specs.ReplyNumbers.{Before, after, is_known, in_order, room_for_with, number_for_with, number_with, first_bad_with, refusal, refused, read_with, write_with, written_with}
+use Rattle.plan.specs.ReplyNumbers.{Before, after, is_known, in_order, room_for_with, number_for_with, number_with, first_bad_with, refusal, read_with, write_with, written_with}
 use Rattle.old_files.specs.OldFiles.{old_ordinary, Larger, RefusedBefore, three, six, OldFiles}
 use Rattle.records.specs.declared.Record.{Record}
 use Rattle.plan.specs.declared.Reading.{Reading}

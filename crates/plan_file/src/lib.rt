@@ -1,5 +1,8 @@
 // Plan files: the reader and the writer. Document 01, "Plan file" and "Reply numbers" 1 to 12; plan/specs states them. `read` and `write`
 // take any bytes, any plan and any buffer and answer; neither asks anything of its caller.
+
+#![tactic(auto)]
+
 ghost use Rattle.std.specs.Prelude.{◌≡◌, [], ◌*◌, ◌≤◌, length};
 ghost use Rattle.plan.specs.Limits.{most_records, record_bytes};
 ghost use Rattle.plan.specs.APlan.{plan_of};

@@ -3,53 +3,54 @@ use crate::say::{decimal, one, pair, text};
 use plan::{
     FARTHEST, Found, LINK, MOST_RECORDS, POINT, Plan, Record, is_watched, link_to, points_of, split,
 };
+use std::io::Stdout;
 
 pub const HAUL_RECORDS: u32 = 9;
 
-fn splits(name: &[u8], d: i32) {
+fn splits(out: Stdout, name: &[u8], d: i32) {
     let g = split(d);
-    pair(name, g.up, g.down);
+    pair(out, name, g.up, g.down);
 }
 
-pub fn signed_numbers() {
-    splits(b"split -2147483648", -2147483648);
-    splits(b"split -100000", -FARTHEST);
-    splits(b"split -1", -1);
-    splits(b"split 0", 0);
-    splits(b"split 1", 1);
-    splits(b"split 100000", FARTHEST);
-    splits(b"split 2147483647", 2147483647);
+pub fn signed_numbers(out: Stdout) {
+    splits(out, b"split -2147483648", -2147483648);
+    splits(out, b"split -100000", -FARTHEST);
+    splits(out, b"split -1", -1);
+    splits(out, b"split 0", 0);
+    splits(out, b"split 1", 1);
+    splits(out, b"split 100000", FARTHEST);
+    splits(out, b"split 2147483647", 2147483647);
 }
 
 // The link that ends at a point, and whether the point is watched.
-fn finds(name: &[u8], p: Plan, c: u8) {
-    text(name);
+fn finds(out: Stdout, name: &[u8], p: Plan, c: u8) {
+    text(out, name);
     match link_to(p, c) {
         Found::At(i) => {
-            text(b": at ");
-            decimal(i);
+            text(out, b": at ");
+            decimal(out, i);
         }
-        Found::Nothing => text(b": nothing"),
+        Found::Nothing => text(out, b": nothing"),
     }
     if is_watched(p, c) {
-        text(b", watched\n");
+        text(out, b", watched\n");
     } else {
-        text(b", not watched\n");
+        text(out, b", not watched\n");
     }
 }
 
-pub fn of_the_haul(haul: Plan) {
-    one(b"points of the haul", points_of(haul));
-    finds(b"the haul's link to 0", haul, 0);
-    finds(b"the haul's link to 1", haul, 1);
-    finds(b"the haul's link to 2", haul, 2);
-    finds(b"the haul's link to 3", haul, 3);
-    finds(b"the haul's link to 255", haul, 255);
+pub fn of_the_haul(out: Stdout, haul: Plan) {
+    one(out, b"points of the haul", points_of(haul));
+    finds(out, b"the haul's link to 0", haul, 0);
+    finds(out, b"the haul's link to 1", haul, 1);
+    finds(out, b"the haul's link to 2", haul, 2);
+    finds(out, b"the haul's link to 3", haul, 3);
+    finds(out, b"the haul's link to 255", haul, 255);
 }
 
-pub fn of_two_links(plan: Plan) {
-    finds(b"of two links, that to 2", plan, 2);
-    finds(b"of two links, that to 4", plan, 4);
+pub fn of_two_links(out: Stdout, plan: Plan) {
+    finds(out, b"of two links, that to 2", plan, 2);
+    finds(out, b"of two links, that to 4", plan, 4);
 }
 
 // The plan with another count.
@@ -92,45 +93,55 @@ fn second_link() -> Record {
     }
 }
 
-fn points_in(name: &[u8], p: Plan) {
-    one(name, points_of(p));
+fn points_in(out: Stdout, name: &[u8], p: Plan) {
+    one(out, name, points_of(p));
 }
 
 // How many points there are in plans that no file could hold.
-pub fn odd_points(haul: Plan) {
-    points_in(b"points of no records", counted(haul, 0));
-    points_in(b"points of 3 records", counted(haul, 3));
-    points_in(b"points of 4294967295 records", counted(haul, 4294967295));
+pub fn odd_points(out: Stdout, haul: Plan) {
+    points_in(out, b"points of no records", counted(haul, 0));
+    points_in(out, b"points of 3 records", counted(haul, 3));
     points_in(
+        out,
+        b"points of 4294967295 records",
+        counted(haul, 4294967295),
+    );
+    points_in(
+        out,
         b"points with garbage in unused room",
         replaced(haul, 9, garbage(POINT)),
     );
     points_in(
+        out,
         b"points with garbage in use",
         replaced(haul, 8, garbage(POINT)),
     );
 }
 
 // The link to a point in such plans.
-pub fn odd_links(haul: Plan) {
-    finds(b"the link to 2 in 4 records", counted(haul, 4), 2);
-    finds(b"the link to 2 in 5 records", counted(haul, 5), 2);
+pub fn odd_links(out: Stdout, haul: Plan) {
+    finds(out, b"the link to 2 in 4 records", counted(haul, 4), 2);
+    finds(out, b"the link to 2 in 5 records", counted(haul, 5), 2);
     finds(
+        out,
         b"the link to 2 in 4294967295 records",
         counted(haul, 4294967295),
         2,
     );
     finds(
+        out,
         b"of two links to 2, the first",
         replaced(haul, 8, second_link()),
         2,
     );
     finds(
+        out,
         b"a link to 255 in use",
         replaced(haul, 8, garbage(LINK)),
         255,
     );
     finds(
+        out,
         b"a link to 255 in unused room",
         replaced(haul, 9, garbage(LINK)),
         255,

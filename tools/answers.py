@@ -68,6 +68,20 @@ def clauses(root="crates"):
                 CLAUSES[fn][m.group(1)].append(m.group(2))
 
 
+def named_clauses(fn, kind):
+    """a function's clause names, wherever in its crate the text of it stands"""
+    if not fn:
+        return []
+    if fn in CLAUSES:
+        return CLAUSES[fn][kind]
+    parts = fn.split("::")
+    for n in (2, 1):
+        found = [k for k in CLAUSES if k.split("::")[0] == parts[0] and k.split("::")[-n:] == parts[-n:]]
+        if len(found) == 1:
+            return CLAUSES[found[0]][kind]
+    return []
+
+
 def part_of(names, more):
     """projections `.1.1.0` of nested pairs, as the clause they name and what is left"""
     n = len(names)
@@ -135,6 +149,10 @@ def as_record(rest, names):
         if not more:
             return rest
         parts = parts[:-1] + more
+    if not parts and re.match(r"\s*[a-z_]\w*\s", tail) and not re.match(r"\s*(?:record|rw|simp|let|elim|search|omega|grind|absurd|subst)\b", tail):
+        n = len(names)
+        row = "".join(f"      {x} = all" + ".1" * k + (".0" if k < n - 1 else "") + ";\n" for k, x in enumerate(names))
+        return front + "\n    let all = " + tail.strip() + " in\n    record {\n" + row + "    }"
     if not parts or len(parts) != len(names):
         return rest
     return front + "\n    record {\n" + "".join(f"      {n} = {p};\n" for n, p in zip(names, parts)) + "    }"
@@ -208,6 +226,16 @@ class Places:
             at = self.parent.get(at)
         return None
 
+    def only(self, place, field):
+        found = []
+        at = place
+        while at is not None:
+            o, n = self.step[at]
+            if o and norm(o) == norm(field):
+                found.append(n)
+            at = self.parent.get(at)
+        return found[0] if len(found) == 1 else None
+
 
 def goal_places(d):
     """goal's old names (all spellings) -> (new name, place)"""
@@ -256,7 +284,10 @@ def paths(body, place, places, left, where):
         if name != "c" and name not in alias:
             return m.group(0)
         at = places.up(place, befores + alias.get(name, 0))
-        if at is None:
+        if at is None and rest[1:] not in ("args", "ranges", "requires", "well_formed", "well-formed", "type_inv"):
+            new = places.only(place, rest[1:]) if rest else None
+            if new:
+                return "c." + new + "".join("." + x for x in more)
             left.append(f"{where}: {m.group(0)} goes past the start")
             return m.group(0)
         if not rest:
@@ -265,7 +296,7 @@ def paths(body, place, places, left, where):
             return "c"
         field = rest[1:]
         if field == "requires":
-            more = part_of(CLAUSES.get(places.own, {}).get("requires", []), more)
+            more = part_of(named_clauses(places.own, "requires"), more)
         if field in ("args", "ranges", "requires", "well_formed", "well-formed", "type_inv"):
             return "c." + field + "".join("." + places.args.get(x, x) for x in more)
         known = re.match(r"shared[-_]slice[-_]known\d*$", field)
@@ -279,14 +310,24 @@ def paths(body, place, places, left, where):
             here = at
             while here is not None and norm(places.step[here][0]) != norm(field):
                 here = places.parent.get(here)
-            names = CLAUSES.get(places.callee.get(here) or "", {}).get("ensures", []) if here else []
+            if here is None:
+                here = place
+                while here is not None and norm(places.step[here][0]) != norm(field):
+                    here = places.parent.get(here)
+            names = named_clauses(places.callee.get(here) or "", "ensures") if here else []
             more = ["ensures", *part_of(names, more[1:])]
         arm = places.in_arm(place, at, field, more)
         if arm:
             return "c." + arm[0] + "".join("." + x for x in more[arm[1] :])
         new = places.find(at, field)
+        if new is None:
+            # counted too far back: the only step of that name before the goal is meant
+            new = places.only(place, field)
         if new is None and field[-1:].isdigit():
             new = places.find(at, field.rstrip("0123456789").rstrip("-_"))
+        if new is None and field.endswith("_lem"):
+            # the spelling took the step for a lemma
+            new = places.find(at, field[: -len("_lem")])
         if new is None:
             # a lemma's spelling (tools/spelling.json) of a call's name
             new = places.find(at, re.sub(r"_lem$", "", field)) or places.find(at, field.lower())
@@ -319,7 +360,7 @@ def invariant(sig, body, old, new, vars_, changed, left, where):
     to.pop("_", None)
     names = "|".join(re.escape(p) for p in sorted(to, key=len, reverse=True))
     if names:
-        rest = re.sub(r"(?<![\w'.\-₀-₉])(" + names + r")(?![\w'\-₀-₉])", lambda m: to[m.group(1)], rest)
+        rest = re.sub(r"(?<![\w'.\-₀-₉])(" + names + r")(?![\w'\-₀-₉]| = )", lambda m: to[m.group(1)], rest)
     return rest
 
 
@@ -395,6 +436,17 @@ def convert(crate, name, d):
             left.append(f"{where}: κs is used")
         rest = paths(rest, place, places, left, where).rstrip()
         # a test of `!x` says today what x is
+        called = {n: places.callee.get(old) for old, (_, n) in places.step.items()}
+        for m in list(re.finditer(r"let (" + WORD + r") = c\.([\w\-]+)\.ensures in", rest)):
+            names = named_clauses(called.get(m.group(2)) or "", "ensures")
+            if len(names) > 1 and all(names):
+                rest = re.sub(r"(?<![\w'.\-])" + re.escape(m.group(1)) + r"((?:\.[01])+)(?![\w])", lambda k: m.group(1) + "".join("." + x for x in part_of(names, k.group(1).split(".")[1:])), rest)
+        for m in list(re.finditer(r"let (" + WORD + r") = c\.([\w\-]+) in", rest)):
+            names = named_clauses(called.get(m.group(2)) or "", "ensures")
+            if len(names) > 1 and all(names):
+                rest = re.sub(r"(?<![\w'.\-])" + re.escape(m.group(1)) + r"\.ensures((?:\.[01])+)(?![\w])", lambda k: m.group(1) + ".ensures" + "".join("." + x for x in part_of(names, k.group(1).split(".")[1:])), rest)
+        # a method of std names its clause
+        rest = re.sub(r"(c\.wrapping_\w+_u\w+(?:-\w+)?\.ensures)(?!\.)", r"\1.value", rest)
         # how long an array field is stands in a value's type as it is
         rest = re.sub(r"rw length-map at (\w+(?:\.\w+)+)", r"\1", rest)
         before = rest
@@ -405,7 +457,7 @@ def convert(crate, name, d):
             rest = wrapped
             needs_not.append(1)
         if new.startswith("returns"):
-            rest = as_record(rest, CLAUSES.get(places.own, {}).get("ensures", []))
+            rest = as_record(rest, named_clauses(places.own, "ensures"))
         for a, b in places.args.items():
             rest = re.sub(r"(?<=\w)\." + re.escape(a) + r"(?![\w'\-])", "." + b, rest)
         rest = "\n    " + rest.strip() if "\n" in rest.strip() else " " + rest.strip()
@@ -419,12 +471,34 @@ def convert(crate, name, d):
             uses.append("use mathlib.Core.Bool.{not}")
     base = "Rattle." + crate + ".proofs." + name.replace("/", ".")
     head = "\n".join(comment)
+    # what an invariant speaks of stands with it
+    def named(b):
+        m = re.search(r"^(?:pub |abbrev |unfoldable |opaque )*(?:data |record )?([^\s(){}:]+)(?: \([^)]*\))* :", b, re.M)
+        return m.group(1) if m else None
+
+    with_inv, text_inv = [], "\n".join(inv)
+    for b in reversed(helpers):
+        n = named(b)
+        if n and re.search(r"(?<![\w'\-])" + re.escape(n) + r"(?![\w'\-])", text_inv):
+            with_inv.insert(0, b)
+            text_inv += b
+    helpers = [b for b in helpers if b not in with_inv]
+    shared = [named(b) for b in with_inv if any(re.search(r"(?<![\w'\-])" + re.escape(named(b)) + r"(?![\w'\-])", a) for a in ans + helpers)]
+
+    def public(b):
+        n = named(b)
+        return "\n".join(
+            (l if "pub " in l else re.sub(r"^((?:abbrev |unfoldable )?)", r"\1pub ", l)) if re.match(r"(?:abbrev |unfoldable )?(?:pub )?(?:data |record )?" + re.escape(n) + r"(?: \([^)]*\))* :", l) else l
+            for l in b.split("\n")
+        )
+
+    inv = [public(b) for b in with_inv] + inv
     if inv:
         it = "\n".join(uses + [f"use {base}.Given as goal"])
         with open(f"{folder}/Invariants.antt", "w") as o:
             o.write((head + "\n" if head else "") + it + "\n\n" + "\n\n".join(inv) + "\n")
     if ans:
-        it = "\n".join(uses + [f"use {base}.Goals as goal"])
+        it = "\n".join(uses + ([f"use {base}.Invariants.{{{', '.join(shared)}}}"] if shared else []) + [f"use {base}.Goals as goal"])
         with open(f"{folder}/Answers.antt", "w") as o:
             o.write((head + "\n" if head else "") + it + "\n\n" + "\n\n".join(helpers + ans) + "\n")
     elif helpers:

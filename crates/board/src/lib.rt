@@ -2,6 +2,8 @@
 // `fresh`, `minute_of`, `is_sound`, `is_finished`, `take` and `take_all` take any plan, any board and any bytes and answer;
 // `is_sound_by` and `is_finished_by` serve the crates `replies` and `verdict`.
 
+#![tactic(auto)]
+
 ghost use Rattle.std.specs.Prelude.{◌≡◌};
 ghost use Rattle.board.specs.Boards.{fresh};
 

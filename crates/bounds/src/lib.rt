@@ -1,5 +1,8 @@
 // One ordinary constraint on plain numbers: two points and a bound. Document 01, "A plan" (ordinary records) and "Verdict
 // and plan test". Takes any numbers: the sums are of 64 bits, and nothing is asked of a bound.
+
+#![tactic(auto)]
+
 ghost use Rattle.std.specs.Prelude.{◌≡◌};
 ghost use Rattle.bounds.specs.Bounds.{bound_kept, both_in};
 

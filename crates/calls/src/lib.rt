@@ -1,6 +1,9 @@
 // Which call came when, document 02, §7, on plain values: whether the numbers of the events that did the points are sound.
 // One pass over the done points keeps a slot for each number, and one over the slots ends it. An inner room: it serves
 // `board`. Takes any values.
+
+#![tactic(auto)]
+
 ghost use Rattle.std.specs.Prelude.{◌≡◌, true, ◌≤◌};
 ghost use Rattle.points.specs.Sets.{member, from, every};
 ghost use Rattle.plan.specs.Limits.{most_points};

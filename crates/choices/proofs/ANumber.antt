@@ -1,7 +1,7 @@
 -- A projection by its number, computed. Assumes nothing.
 use mathlib.Core.Path.{◌≡◌, refl}
-use mathlib.Core.List.{List, [], ◌∷◌}
-use Rattle.vee.specs.PlanTest.{Span, many}
+use mathlib.Core.List.{[], ◌∷◌}
+use Rattle.vee.specs.PlanTest.{many}
 use Rattle.choices.specs.Choices.{chosen}
 
 -- two links, of 2 or 3 minutes and of 5 to 7: number 4 has 3 and 6

@@ -1,18 +1,18 @@
 -- The durations of a projection by its number, as the loop over the links finds them. Assumes nothing.
 use mathlib.Core.Path.{◌≡◌, refl, sym, ap, ◌∙◌}
-use mathlib.Core.List.{List, []}
-use Prim.Native.Nat.{ℕ, zero, suc, ◌+◌, ◌-◌, ◌*◌, ◌/◌, ◌%◌, ◌≤◌, ◌<◌}
+use mathlib.Core.List.{List}
+use Prim.Native.Nat.{ℕ, suc, ◌+◌, ◌-◌, ◌*◌, ◌/◌, ◌%◌, ◌≤◌, ◌<◌}
 use native.Mathlib.Omega.{arith}
 use native.Mathlib.Decide.{ℕ_discrete}
-use native.Mathlib.Nat.{mod-lt, mul-div_right, div-lt_iff_lt-mul, mul-le-mul, div-le_self}
+use native.Mathlib.Nat.{mod-lt, mul-div_right, div-lt_iff_lt-mul, mul-le-mul}
 use lib.ListN.{length, set, length-set, length-replicate}
 use lib.Seq.{get_or-set_same, get_or-set_other}
 use Rattle.plan.specs.Limits.{most_points, most_records, farthest}
 use Rattle.tables.specs.Tables.{side}
 use Rattle.rows.specs.declared.sheet.Row.{Row}
-use Rattle.rows.specs.Sheet.{row_at, first_at, second_at, over_at, by}
+use Rattle.rows.specs.Sheet.{row_at, second_at, by}
 use Rattle.vee.specs.PlanTest.{many, unset, most_projections}
-use Rattle.vee.specs.Walked.{span_at, spans_in, WalkReady}
+use Rattle.vee.specs.Walked.{spans_in}
 use Rattle.vee.proofs.Walks.{unfolded}
 use Rattle.vee.proofs.Testing.{nothing_lasts}
 use Rattle.choices.specs.Choices.{chosen, ChooseAsks, ChosenAs}

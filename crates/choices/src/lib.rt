@@ -1,5 +1,8 @@
 // The projections of a plan by number: what the test's answer says of their count, and the durations that one of them picks, of a plan laid
 // out in rows. An inner room: `chosen` has a `requires`, which every caller is proved to meet.
+
+#![tactic(auto)]
+
 ghost use Rattle.std.specs.Prelude.{◌≡◌, ◌+◌, ◌≤◌};
 ghost use Rattle.plan.specs.Limits.{farthest};
 ghost use Rattle.choices.specs.Answered.{refused_by, many_by};

@@ -14,7 +14,6 @@ use Rattle.records.specs.declared.Record.{Record}
 use Rattle.vee.specs.PlanTest.{Has}
 use Rattle.vee.proofs.Yes.{Every, none, join}
 use Rattle.closure.specs.Closing.{gathered}
-use Rattle.closure.proofs.ARound.{typed}
 
 -- the part of one number more
 pub gathered_more : (i k : ℕ) (f : ℕ → List Record) → gathered i (suc k) f ≡ gathered i k f ++ f (i + k)

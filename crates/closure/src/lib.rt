@@ -1,5 +1,8 @@
 // Plans without watched steps: of a plan with no links and no waits, the plan that has an ordinary record for each pair of
 // different points that a path joins, with the shortest distance as bound. Document 02, §12. It takes any plan.
+
+#![tactic(auto)]
+
 ghost use Rattle.std.specs.Prelude.{◌≡◌, ◌≤◌};
 ghost use Rattle.plan.specs.Limits.{most_records};
 ghost use Rattle.plan.specs.APlan.{records_of};

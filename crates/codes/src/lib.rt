@@ -1,5 +1,8 @@
 // The pond codes of a plan's points, taken out of the plan once: a plan by value is large, and what prints or writes the codes of points
 // needs no more of it. Takes any plan.
+
+#![tactic(auto)]
+
 ghost use Rattle.std.specs.Prelude.{◌≡◌};
 ghost use Rattle.plan.specs.Limits.{most_points};
 ghost use Rattle.codes.specs.Ponds.{ForEach, pond_at};

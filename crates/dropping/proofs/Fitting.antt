@@ -3,33 +3,30 @@
 use mathlib.Core.Path.{◌≡◌, refl, sym, ap, subst, ◌∙◌}
 use mathlib.Core.Bool.{Bool, true, false, not}
 use mathlib.Core.List.{List, []}
-use Prim.Native.Nat.{ℕ, suc, ◌+◌, ◌*◌, ◌<◌, ◌≤◌}
+use Prim.Native.Nat.{ℕ, ◌+◌, ◌<◌, ◌≤◌}
 use native.Mathlib.Omega.{arith}
 use native.Mathlib.Decide.{ℕ_discrete}
 use lib.ListN.{length, get_or, length-take}
-use borrow.Author.Tests.{eq-eqb, eqb-true}
+use borrow.Author.Tests.{eqb-true}
 use Rattle.plan.specs.Limits.{farthest, most_records}
 use Rattle.plan.specs.APlan.{ordinary, is, points, links, gap_of, records_of}
 use Rattle.records.specs.declared.Record.{Record}
 use Rattle.plan.specs.declared.Plan.{Plan}
 use Rattle.numbers.specs.declared.Gap.{Gap}
-use Rattle.network.specs.Passing.{Good}
 use Rattle.network.proofs.Laws.{not_both, not_fine, over}
 use Rattle.tables.specs.declared.table.Part.TheVariants.{All}
-use Rattle.tables.specs.Tables.{bias, none, side}
 use Rattle.tables.specs.Entries.{middle, nowhere, raw, at}
 use Rattle.tables.specs.Distances.{Distances}
 use Rattle.tables.proofs.Widths.{wide_in, finite, wide_there}
-use Rattle.rows.specs.Sheet.{SheetEdge, SheetReady}
+use Rattle.rows.specs.Sheet.{SheetEdge}
 use Rattle.rows.specs.Layout.{LaidOut}
 use Rattle.rows.specs.Filled.{Filled}
-use Rattle.projection.specs.declared.Finding.{Finding}
 use Rattle.projection.specs.declared.Finding.TheVariants as finding
 use Rattle.projection.specs.Findings.{FoundOf, is_good, has_cycle_lem, has_pair, JudgeReady}
 use Rattle.projection.proofs.Laws.{same_good}
 use Rattle.projection.proofs.Judges.{all_edges, some_cycle, may_judge}
 use Rattle.vee.specs.PlanTest.{spans, projections, unset, many, most_projections, edges_of}
-use Rattle.vee.specs.Walked.{spans_in, WalkReady}
+use Rattle.vee.specs.Walked.{spans_in}
 use Rattle.vee.proofs.Rules.{Valid}
 use Rattle.vee.proofs.Sheets.{to_sheet, from_sheet}
 use Rattle.vee.proofs.Testing.{accepted_plan, links_are, may_walk}

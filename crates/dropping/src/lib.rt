@@ -1,6 +1,9 @@
 // Whether a record of a plan is needed beside the others: one run over the projections of the plan without it, which stops at the
 // first in which the others alone are not good, or join the record's two points by no walk as short as it says. An inner room: its
 // functions have a `requires`, which every caller is proved to meet.
+
+#![tactic(auto)]
+
 ghost use Rattle.std.specs.Prelude.{◌≡◌, ◌+◌, ◌≤◌};
 ghost use Rattle.plan.specs.APlan.{records_of};
 ghost use Rattle.plan.specs.Limits.{farthest};

@@ -1,6 +1,9 @@
 // The sixteen bytes of an event: its fields, and whether it is well formed in a plan of so many points. Bytes may be any, of
 // any length. And three numbers stored in a lent room, as is said of each event of a stream. An inner room: it serves
 // `board` and the crates between.
+
+#![tactic(auto)]
+
 ghost use Rattle.std.specs.Prelude.{◌≡◌, [], ◌∷◌, ◌+◌, ◌^◌, ◌≤◌, ◌<◌, min, length, set};
 ghost use Rattle.std.proofs.lemmas.List.Edits.{sets};
 ghost use Rattle.plan.specs.Limits.{record_bytes};

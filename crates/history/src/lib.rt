@@ -1,6 +1,9 @@
 // What has happened, as plain values: a clock, a set of done points and a minute for each. When they are sound, and what is
 // asked of every record of a plan by them; specs/ has the rules. An inner room: it serves `board` and the crates between.
 // Takes any plan and any values, so sums of minutes and bounds are of 64 bits.
+
+#![tactic(auto)]
+
 ghost use Rattle.std.specs.Prelude.{◌≡◌, min};
 ghost use Rattle.points.specs.Sets.{below_of};
 ghost use Rattle.plan.specs.Limits.{most_records};

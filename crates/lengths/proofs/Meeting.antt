@@ -1,24 +1,20 @@
 -- The least way of negative edges and then others, by the point where it turns. Assumes nothing.
-use mathlib.Core.Path.{◌≡◌, refl, sym, ap, ◌∙◌}
-use mathlib.Core.Bool.{Bool, true, false, ◌&&◌}
+use mathlib.Core.Path.{◌≡◌, refl, sym, ◌∙◌}
+use mathlib.Core.Bool.{Bool, true, false}
 use mathlib.Core.List.{List}
 use Prim.Native.Nat.{ℕ, min, ◌+◌, ◌-◌, ◌<◌, ◌≤◌}
 use native.Mathlib.Omega.{arith}
 use native.Mathlib.Decide.{ℕ_discrete, dec_lt}
-use lib.Dec.{ltb}
-use borrow.Author.Tests.{ltb-true, ltb-false, lt-ltb, le-ltb}
-use Rattle.plan.specs.Choice.{if◌then◌else◌}
-use Rattle.network.specs.Walks.{Walk, Negative, NonNegative, Vee, vee}
-use Rattle.network.specs.Passing.{Cycle, Consistent}
+use borrow.Author.Tests.{ltb-true, lt-ltb, le-ltb}
+use Rattle.network.specs.Walks.{Negative, NonNegative, Vee, vee}
 use Rattle.network.proofs.Laws.{over, not_both}
 use Rattle.tables.specs.declared.table.Part.{Part}
 use Rattle.tables.specs.declared.table.Part.TheVariants.{Falling, Rising}
-use Rattle.tables.specs.Tables.{Table, bias, none, side}
-use Rattle.tables.specs.Entries.{raw, at, nowhere, middle, Shallow}
+use Rattle.tables.specs.Entries.{raw, at, nowhere}
 use Rattle.tables.specs.Steps.{PartOf}
 use Rattle.tables.specs.Distances.{Distances}
 use Rattle.tables.proofs.Widths.{wide_in, finite, wide_there}
-use Rattle.rows.specs.Sheet.{SheetEdge, SheetReady}
+use Rattle.rows.specs.Sheet.{SheetEdge}
 use Rattle.rows.specs.Filled.{Filled}
 use Rattle.rows.proofs.Lays.{inside}
 use Rattle.projection.proofs.Laws.{ends, same_distances}

@@ -1,6 +1,9 @@
 // Lengths of walks, and the best that the windows can follow: the least length of a walk of negative edges and then non-negative ones from
 // one point to another, from the distances over the negative edges and over the others. An inner room of `explained`: some functions
 // have a `requires`, which every caller is proved to meet.
+
+#![tactic(auto)]
+
 ghost use Rattle.std.specs.Prelude.{◌≡◌, ◌+◌, ◌-◌, ◌<◌, ◌≤◌, min};
 ghost use Rattle.network.specs.Walks.{Vee};
 ghost use Rattle.tables.specs.Tables.{side};

@@ -1,11 +1,12 @@
 -- Going down a list one bound at a time answers what `judge_of` says of the whole list: what holds at the start, at a turn
 -- and at the end. Assumes nothing.
 use mathlib.Core.Path.{◌≡◌, refl, sym, ◌∙◌}
-use mathlib.Core.Bool.{Bool, true, false, not}
+use mathlib.Core.Bool.{Bool, true, false, not, true≢false}
 use mathlib.Core.List.{List, [], ◌∷◌}
 use Prim.Native.Nat.{ℕ, suc, ◌+◌, ◌≤◌, ◌<◌}
 use native.Mathlib.Numerals.{add-one}
-use lib.Dec.{T, eqb, ltb, ltb→lt, nltb→le}
+use lib.Dec.{eqb, ltb}
+use borrow.Author.Tests.{ltb-true, ltb-false}
 use lib.IntN.{pos}
 use lib.ListN.{length, drop, get_or, drop_of_length-le}
 use lib.Seq.{drop-cons}
@@ -67,27 +68,27 @@ starts p b ys = go (not (eqb (ended_of p b).number 0)) (ended_of p b).number (en
     go false k j = kept (points (records_of p)) b 0 ys
 
 module _ (s : Judging) (i : ℕ) (ys : List Bound) where
-  pub passed : i < length ys → gone_through s i (drop i ys) ≡ gone_through (judged_after s i (get_or ys i none)) (i + 1) (drop (i + 1) ys)
+  pub passed : (none : Bound) → i < length ys → gone_through s i (drop i ys) ≡ gone_through (judged_after s i (get_or ys i none)) (i + 1) (drop (i + 1) ys)
   unfolding gone_through
-  passed h = rw (drop-cons ys i none h, add-one i)
+  passed none h = rw (drop-cons ys i none h, add-one i)
 
   over : length ys ≤ i → s.answer ≡ gone_through s i (drop i ys)
   unfolding gone_through
   over h = rw (drop_of_length-le ys h)
 
-  pub stopped : T (not (goes_on s.answer i (length ys))) → s.answer ≡ gone_through s i (drop i ys)
+  pub stopped : goes_on s.answer i (length ys) ≡ false → s.answer ≡ gone_through s i (drop i ys)
   stopped = go s.answer refl
     where
-      go : (a : Judged) → s.answer ≡ a → T (not (goes_on a i (length ys))) → s.answer ≡ gone_through s i (drop i ys)
+      go : (a : Judged) → s.answer ≡ a → goes_on a i (length ys) ≡ false → s.answer ≡ gone_through s i (drop i ys)
       go (Refused k j) is h = is ∙ sym (refused s k j i (drop i ys) is)
-      go Kept is h = over (nltb→le i (length ys) h)
-      go (Broken j) is h = over (nltb→le i (length ys) h)
+      go Kept is h = over (ltb-false i (length ys) h)
+      go (Broken j) is h = over (ltb-false i (length ys) h)
 
 -- where the list goes on there is a bound at the place
-pub going : (a : Judged) (i n : ℕ) → T (goes_on a i n) → i < n
-going (Refused k j) i n h = absurd h
-going Kept i n h = ltb→lt i n h
-going (Broken j) i n h = ltb→lt i n h
+pub going : (a : Judged) (i n : ℕ) → goes_on a i n ≡ true → i < n
+going (Refused k j) i n h = absurd (true≢false (sym h))
+going Kept i n h = ltb-true i n h
+going (Broken j) i n h = ltb-true i n h
 
 -- where nothing is refused, every bound of the list is still to be looked at
 pub kept_goes : (a : Judged) (i n : ℕ) → a ≡ Kept → ltb i n ≡ goes_on a i n

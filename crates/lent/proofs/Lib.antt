@@ -1,4 +1,3 @@
 -- The modules of proofs that belong to no one function. Other crates cite the ones that are `pub`.
 mod Going
-mod Plainly
 pub mod Theorems

@@ -1,7 +1,9 @@
 // The verdict over a lent list of ordinary constraints, each two points and a bound. Document 01, "Verdict and plan test".
 // `judge` takes the list as it is lent, a slice of structs: it goes down the list and leaves the work to functions on plain
-// values. `judge_list` lends it one. These two are proved by hand. Every open function takes any plan, any board and any
-// list and answers.
+// values. `judge_list` lends it one. Every open function takes any plan, any board and any list and answers.
+
+#![tactic(auto)]
+
 ghost use Rattle.std.specs.Prelude.{◌≡◌, min, take};
 ghost use Rattle.lent.specs.Judgement.{judge_of};
 ghost use Rattle.lent.specs.Inside.{begun_of, goes_on, answer_after, judged_after, list_room};
@@ -128,8 +130,7 @@ fn listed(count: usize) -> usize
     if count < LIST_ROOM { count } else { LIST_ROOM }
 }
 
-// The same of the first `count` bounds of a list by value, for callers that are to need no proof by hand: it lends them
-// to `judge`.
+// The same of the first `count` bounds of a list by value: it lends them to `judge`.
 pub fn judge_list(plan: Plan, board: Board, list: [Bound; LIST_ROOM], count: usize) -> Judged
     ensures { result ≡ judge_of plan board (take count list) }
 {

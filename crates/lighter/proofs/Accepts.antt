@@ -1,17 +1,17 @@
 -- An accepted plan without one of its ordinary records is accepted: what the records after it ask of those before them has not
 -- changed, but that there are fewer of them. Assumes nothing.
 use mathlib.Core.Path.{◌≡◌, refl, sym, ap, subst, ◌∙◌}
-use mathlib.Core.Bool.{Bool, true, false, not, ◌&&◌}
+use mathlib.Core.Bool.{true, false}
 use mathlib.Core.List.{List, [], ◌∷◌, ◌++◌, map, append_assoc, append-nil}
-use Prim.Native.Nat.{ℕ, zero, suc, ◌+◌, ◌≤◌, ◌<◌}
+use Prim.Native.Nat.{ℕ, zero, suc, ◌≤◌, ◌<◌}
 use native.Mathlib.Omega.{arith}
-use lib.Dec.{eqb, ltb, leb}
-use lib.ListN.{length, take, replicate, length-append}
+use lib.Dec.{ltb}
+use lib.ListN.{length, length-append}
 use lib.Seq.{take-append_seam, get_or_at}
-use borrow.Author.Tests.{ltb-true, lt-ltb, leb-true, le-leb, eqb-true, ne_eqb, le-ltb, ltb-false, not-true}
-use Rattle.plan.specs.Limits.{most_records, most_ordinary, farthest}
-use Rattle.plan.specs.APlan.{Kind, point, link, ordinary, wait, unknown, kind_of, is, one, how_many, points, watched, leads, link_to, ends_at, from_to, blank, gap_of, records_of, plan_of}
-use Rattle.plan.specs.ReplyNumbers.{Before, after, last_kind, named, joined, bounded, number_for, number_for_with, number_of, first_bad, first_bad_with, check_of, check_with, accepted}
+use borrow.Author.Tests.{ltb-true, lt-ltb, leb-true, le-leb, ne_eqb, le-ltb, not-true}
+use Rattle.plan.specs.Limits.{most_records, farthest}
+use Rattle.plan.specs.APlan.{Kind, point, link, ordinary, wait, unknown, kind_of, is, one, how_many, points, ends_at, from_to, blank, gap_of, records_of, plan_of}
+use Rattle.plan.specs.ReplyNumbers.{Before, after, last_kind, named, joined, bounded, number_for, number_for_with, first_bad, first_bad_with, check_of, check_with}
 use Rattle.plan.specs.Held.{plain}
 use Rattle.records.specs.declared.Record.{Record}
 use Rattle.plan.specs.declared.Plan.{Plan}
@@ -19,7 +19,6 @@ use Rattle.rules.specs.OneRecord.{single as one_single}
 use Rattle.rules.proofs.Passed.{Passed}
 use Rattle.vee.proofs.Rules.{Valid, no_more, one_more}
 use Rattle.vee.proofs.Plans.{Whole, w_point, w_link, w_ordinary, w_wait, whole}
-use Rattle.vee.proofs.Testing.{accepted_plan}
 use Rattle.lighter.proofs.Skips.{many_skip, some_skip, first_skip, none_skip, last_skip}
 
 -- ---- one record

@@ -6,8 +6,7 @@ use native.Mathlib.Omega.{arith}
 use Rattle.plan.specs.APlan.{records_of}
 use Rattle.plan.specs.ReplyNumbers.{check_of, refusal}
 use Rattle.plan.specs.declared.Plan.{Plan}
-use Rattle.network.specs.Passing.{Passes}
-use Rattle.vee.specs.PlanTest.{net_of, spans, many, most_projections, Found, all_good, good, cycle, pair, Tested}
+use Rattle.vee.specs.PlanTest.{spans, many, most_projections, Found, good, Tested}
 use Rattle.vee.specs.PlanTest.Tested.{refused as t-refused, too_many as t-too-many, tested}
 use Rattle.vee.specs.declared.Answer.{Answer}
 use Rattle.vee.specs.declared.Answer.TheVariants as answer

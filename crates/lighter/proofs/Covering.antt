@@ -1,13 +1,11 @@
 -- Edges F among edges E, such that for every walk over E one over F is no longer: they have the same distances, and what lies
 -- between two such is good where the fewer are. Assumes nothing.
-use mathlib.Core.Path.{◌≡◌}
-use mathlib.Core.Logic.{◌↔◌}
-use Prim.Native.Nat.{ℕ, ◌+◌, ◌<◌, ◌≤◌}
+use Prim.Native.Nat.{ℕ, ◌+◌}
 use native.Mathlib.Omega.{arith}
-use Rattle.network.specs.Walks.{Walk, nil, step, Negative, NonNegative, Vee, vee}
-use Rattle.network.specs.Passing.{Joined, Consistent, Shortest, Dispatchable, Good}
+use Rattle.network.specs.Walks.{Walk, nil, step, Vee, vee}
+use Rattle.network.specs.Passing.{Shortest, Good}
 use Rattle.network.proofs.Laws.{append, over, vee_walk}
-use Rattle.dropping.specs.Spare.{Reaches, Enough}
+use Rattle.dropping.specs.Spare.{Reaches}
 use Rattle.lighter.specs.Lighter.{IsDistance, SameDistances}
 
 abbrev pub Edges : Type 1

@@ -7,7 +7,7 @@ use Prim.Native.Nat.{ℕ, suc, ◌+◌, ◌-◌, ◌<◌, ◌≤◌}
 use native.Mathlib.Omega.{arith}
 use native.Mathlib.Decide.{ℕ_discrete}
 use native.Mathlib.Numerals.{add-one}
-use lib.ListN.{length, get_or, set, take, drop, replicate, length-append, length-take, length-drop, length-replicate}
+use lib.ListN.{length, get_or, set, drop, replicate, length-append, length-take, length-drop, length-replicate}
 use lib.Seq.{append_snoc, drop-cons, drop-length, take_at, drop_at, get_or_at, take_all}
 use borrow.Author.Tests.{eqb-true}
 use Rattle.plan.specs.Choice.{if◌then◌else◌}

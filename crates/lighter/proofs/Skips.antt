@@ -3,16 +3,14 @@ use mathlib.Core.Path.{◌≡◌, refl, sym, ap, ◌∙◌}
 use mathlib.Core.Logic.{◌⊎◌, inl, inr}
 use mathlib.Core.Bool.{Bool, true, false, ◌||◌}
 use mathlib.Core.List.{List, [], ◌∷◌, ◌++◌, append-nil}
-use Prim.Native.Nat.{ℕ, zero, suc, ◌+◌, ◌≤◌, ◌<◌}
+use Prim.Native.Nat.{ℕ, zero, suc, ◌+◌, ◌≤◌}
 use native.Mathlib.Omega.{arith}
-use lib.ListN.{length, get_or}
 use Rattle.plan.specs.Choice.{if◌then◌else◌}
-use Rattle.plan.specs.APlan.{Kind, link, is, one, how_many, some, first_that, blank}
+use Rattle.plan.specs.APlan.{Kind, link, is, one, how_many, some, first_that}
 use Rattle.plan.specs.ReplyNumbers.{last_kind}
 use Rattle.records.specs.declared.Record.{Record}
-use Rattle.network.specs.Projection.{Net, InBounds, Edge, ordinary, there, back, wait}
+use Rattle.network.specs.Projection.{Edge, ordinary, there, back, wait}
 use Rattle.vee.specs.PlanTest.{Has, OrdinaryIn, LinkIn, WaitIn, net_of, spans, in_front, span_of}
-use Rattle.plan.specs.APlan.Kind.{ordinary as ordinary_kind}
 
 -- ---- what is so of them
 

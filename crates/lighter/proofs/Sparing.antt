@@ -2,24 +2,23 @@
 -- from its first point to its second in no more than it says. Assumes nothing.
 use mathlib.Core.Path.{◌≡◌, refl, sym, ap, ◌∙◌}
 use mathlib.Core.Logic.{◌⊎◌, inl, inr}
-use mathlib.Core.Bool.{Bool, true, false}
+use mathlib.Core.Bool.{Bool}
 use mathlib.Core.List.{List, [], ◌∷◌, ◌++◌}
-use Prim.Native.Nat.{ℕ, zero, suc, ◌+◌, ◌≤◌, ◌<◌}
+use Prim.Native.Nat.{ℕ, suc, ◌+◌, ◌<◌}
 use native.Mathlib.Omega.{arith}
 use lib.ListN.{length, get_or}
-use borrow.Author.Tests.{eqb-true}
-use Rattle.plan.specs.APlan.{Kind, link, wait, is, gap_of}
+use Rattle.plan.specs.APlan.{gap_of}
 use Rattle.plan.specs.APlan.Kind.{ordinary as an_ordinary_lem}
 use Rattle.records.specs.declared.Record.{Record}
 use Rattle.network.specs.Projection.{InBounds, Edge, ordinary, there, back}
 use Rattle.network.specs.Projection.Edge.{wait as waits}
 use Rattle.network.specs.Walks.{nil, step}
-use Rattle.network.specs.Passing.{Good, Passes}
+use Rattle.network.specs.Passing.{Passes}
 use Rattle.network.proofs.Laws.{over}
 use Rattle.rows.specs.Sheet.{by}
-use Rattle.vee.specs.PlanTest.{Has, OrdinaryIn, LinkIn, WaitIn, net_of, spans, projections, unset, many, edges_of}
+use Rattle.vee.specs.PlanTest.{Has, LinkIn, WaitIn, net_of, spans, projections, unset, edges_of}
 use Rattle.vee.proofs.Rules.{Valid}
-use Rattle.vee.proofs.Yes.{Every, none, also, Agree, turned, carry, agree_good, stands_for, each_in_bounds}
+use Rattle.vee.proofs.Yes.{Every, none, also, carry, agree_good, stands_for, each_in_bounds}
 use Rattle.vee.proofs.Walks.{as_many}
 use Rattle.vee.proofs.Numbered.{every_at}
 use Rattle.dropping.specs.Spare.{Told, told_yes, told_no, Reaches, Enough, Spare}

@@ -2,9 +2,8 @@
 -- same minutes keep it. Fewer records never shorten a distance and never add a way, so what could not go before cannot go later.
 -- Assumes nothing.
 use mathlib.Core.Path.{◌≡◌, refl, sym, ap, subst, ◌∙◌}
-use mathlib.Core.Bool.{Bool, true}
 use mathlib.Core.List.{List, [], ◌∷◌, ◌++◌, append-nil}
-use Prim.Native.Nat.{ℕ, zero, suc, min, ◌+◌, ◌<◌, ◌≤◌}
+use Prim.Native.Nat.{ℕ, min, ◌+◌, ◌≤◌}
 use native.Mathlib.Omega.{arith}
 use native.Mathlib.Decide.{ℕ_discrete}
 use lib.ListN.{length, get_or, drop, length-append}
@@ -16,7 +15,7 @@ use Rattle.network.specs.Projection.{InBounds, Edge, ordinary, there, back, wait
 use Rattle.network.specs.Walks.{Walk, nil, step}
 use Rattle.network.specs.Passing.{Good, Passes}
 use Rattle.vee.specs.PlanTest.{net_of}
-use Rattle.lighter.specs.Lighter.{SameInEach, MayGo, Goes, ends, drops, keeps}
+use Rattle.lighter.specs.Lighter.{MayGo, Goes, ends, drops, keeps}
 use Rattle.lighter.specs.Promises.{KeptBy, Stands}
 use Rattle.lighter.proofs.Skips.{edge_more}
 use Rattle.lighter.proofs.Covering.{Edges, Covers, covers_edges, covers_trans, covers_same, same_covers, between}
@@ -142,7 +141,7 @@ stands {rs} {qs} {ds} g p =
       none_left = λ ks more r e m. none_still g p ks more r (omega arith) e m;
       untouched = stays_others stays;
       back = all_back stays;
-      in_order_lem = all_rising stays;
+      in_order = all_rising stays;
       kept = λ ω h k. let b = stays_bounds stays [] k.within in edges_keep b (covered h (l.covers ω b) (keeps_edges k));
       still_kept = λ ω h k. edges_keep (bounds_stay stays [] k.within) (λ X Y u d e. keeps_edges k X Y u d (stays_edges stays [] X Y u d e));
     }

@@ -1,24 +1,24 @@
 -- The lighter plan is accepted and stands, and the contract permits a single answer. Assumes nothing.
-use mathlib.Core.Path.{◌≡◌, refl, sym, ap, subst, ◌∙◌}
+use mathlib.Core.Path.{◌≡◌, refl, sym, ap, subst}
 use mathlib.Core.List.{List, [], ◌∷◌, ◌++◌, append-nil}
-use Prim.Native.Nat.{ℕ, suc, ◌+◌, ◌-◌, ◌<◌, ◌≤◌}
+use Prim.Native.Nat.{ℕ, ◌-◌, ◌<◌, ◌≤◌}
 use native.Mathlib.Omega.{arith}
-use lib.ListN.{length, take, replicate, length-append, length-take, length-replicate}
+use lib.ListN.{length, replicate, length-append, length-take}
 use lib.Seq.{append_snoc, take-append_seam}
 use borrow.Author.Tests.{eqb-true}
 use Rattle.plan.specs.Limits.{most_records}
-use Rattle.plan.specs.APlan.{records_of, plan_of}
+use Rattle.plan.specs.APlan.{records_of}
 use Rattle.plan.specs.ReplyNumbers.{check_of}
 use Rattle.plan.specs.Held.{HeldPlan}
 use Rattle.records.specs.declared.Record.{Record}
 use Rattle.plan.specs.declared.Plan.{Plan}
 use Rattle.network.specs.Passing.{Passes}
-use Rattle.vee.specs.PlanTest.{net_of, spans, many, most_projections}
+use Rattle.vee.specs.PlanTest.{net_of}
 use Rattle.vee.proofs.Rules.{Valid}
 use Rattle.vee.proofs.Testing.{accepted_plan}
 use Rattle.lighter.specs.declared.Lighter.{Lighter}
-use Rattle.lighter.specs.Lighter.{Goes, ends, drops, keeps, refused_as, lighter_as, LighterOf, refused, too_many, fails, made}
-use Rattle.lighter.specs.Promises.{Stands, Lightened, Promised}
+use Rattle.lighter.specs.Lighter.{Goes, ends, drops, keeps, lighter_as, LighterOf, refused, too_many, fails, made}
+use Rattle.lighter.specs.Promises.{Lightened, Promised}
 use Rattle.lighter.proofs.Accepts.{valid_without, records_of_lem, some_left, plan_accepted, count_some}
 use Rattle.lighter.proofs.Standing.{stands}
 

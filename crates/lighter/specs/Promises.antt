@@ -55,7 +55,7 @@ pub record Stands (rs qs : List Record) (ds : List ℕ) : Type 0 where
   pub untouched : others qs ≡ others rs
   -- "the numbers of the records dropped, each referring to the plan as it came in": put back there, they give it
   pub back : put_back rs ds qs ≡ rs
-  pub in_order_lem : InOrder rs 0 ds
+  pub in_order : InOrder rs 0 ds
   -- the same minutes and durations keep both: nobody loses a constraint, and none is new
   pub kept : (ω g : ℕ → ℕ) → KeptBy qs ω g → KeptBy rs ω g
   pub still_kept : (ω g : ℕ → ℕ) → KeptBy rs ω g → KeptBy qs ω g

@@ -1,5 +1,8 @@
 // A lighter plan, with a list of what went: of a plan that passes the test, the plan that is left when each ordinary record that is
 // not needed is dropped, in file order. Document 02, §11. It takes any plan.
+
+#![tactic(auto)]
+
 ghost use Rattle.std.specs.Prelude.{◌≡◌, ◌≤◌};
 ghost use Rattle.plan.specs.Choice.{if◌then◌else◌};
 ghost use Rattle.plan.specs.Limits.{most_records};

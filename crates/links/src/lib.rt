@@ -1,6 +1,9 @@
 // The links of a plan by the points that they end at, found in one pass over its records: which points are watched, and
 // of the link that ends at each, its A, its x and its y; and how many points there are. Takes any plan; of two links to one point the first counts, and
 // a link to a point past the last place is passed over. An inner room: it serves `board` and the crates around it.
+
+#![tactic(auto)]
+
 ghost use Rattle.std.specs.Prelude.{◌≡◌};
 ghost use Rattle.plan.specs.APlan.{records_of};
 ghost use Rattle.links.specs.Inside.{watched_after, end_after, Known, LinksOf};

@@ -244,17 +244,17 @@ module _ (rs : List Record) (done : ℕ) (minutes : List ℕ) (fits : done < 2 ^
           long_holders = simp length-set t.long_holders;
           long_lows = simp length-set t.long_lows;
           long_highs = simp length-set t.long_highs;
-          shut_by_lem = λ v h. rw (some_snoc (shuts rs done v) xs r, put_shut said.shuts shut r.a v shuts_place, shuts_said v, t.shut_by v h);
-          held_by_lem = held_more;
-          low_by_lem = λ v h.
+          shut_by = λ v h. rw (some_snoc (shuts rs done v) xs r, put_shut said.shuts shut r.a v shuts_place, shuts_said v, t.shut_by v h);
+          held_by = held_more;
+          low_by = λ v h.
               rw (greatest_snoc (earliest rs done minutes v) xs r, put_low lows p v said.low (omega (arith, t.long_lows)), ← (earliest_said v))
               (omega (arith, t.low_by v h));
-          high_by_lem = λ v h.
+          high_by = λ v h.
               rw (
                 least_snoc (bound done minutes v) xs r,
-                put_high highs q v said.high (omega (arith, t.long_highs)) (omega (arith, t.high_by_lem v h, least_le (bound done minutes v) xs)),
+                put_high highs q v said.high (omega (arith, t.long_highs)) (omega (arith, t.high_by v h, least_le (bound done minutes v) xs)),
                 ← (bound_said v),
-                t.high_by_lem v h,
+                t.high_by v h,
               );
         }
       where
@@ -273,10 +273,10 @@ tables_start rs clock done minutes =
       long_holders = length-replicate {A = ℕ} most_points 0;
       long_lows = length-replicate most_points clock;
       long_highs = length-replicate most_points never;
-      shut_by_lem = λ q h. member_empty q;
-      held_by_lem = λ q h. get_or-replicate most_points q 0 0 h;
-      low_by_lem = λ q h. get_or-replicate most_points q clock 0 h ∙ omega arith;
-      high_by_lem = λ q h. get_or-replicate most_points q never 0 h;
+      shut_by = λ q h. member_empty q;
+      held_by = λ q h. get_or-replicate most_points q 0 0 h;
+      low_by = λ q h. get_or-replicate most_points q clock 0 h ∙ omega arith;
+      high_by = λ q h. get_or-replicate most_points q never 0 h;
     }
 
 module _ (rs : List Record) (done : ℕ) (minutes : List ℕ) (fits : done < 2 ^ 32) (l : Links) (w : LinksOf rs l) (i : ℕ) (h : i < length rs) (r : Record) (here : get_or rs i blank ≡ r) (fine : Fine rs r)

@@ -96,7 +96,7 @@ pub record TablesOf (rs xs : List Record) (clock done : ℕ) (minutes : List ℕ
   pub long_holders : length holders ≡ most_points
   pub long_lows : length lows ≡ most_points
   pub long_highs : length highs ≡ most_points
-  pub shut_by_lem : (q : ℕ) → q < most_points → member shut q ≡ some (shuts rs done q) xs
-  pub held_by_lem : (q : ℕ) → q < most_points → get_or holders q 0 ≡ number_at (place_from 0 (shuts rs done q) xs)
-  pub low_by_lem : (q : ℕ) → q < most_points → get_or lows q 0 ≡ max clock (greatest (earliest rs done minutes q) xs)
-  pub high_by_lem : (q : ℕ) → q < most_points → get_or highs q 0 ≡ least (bound done minutes q) xs
+  pub shut_by : (q : ℕ) → q < most_points → member shut q ≡ some (shuts rs done q) xs
+  pub held_by : (q : ℕ) → q < most_points → get_or holders q 0 ≡ number_at (place_from 0 (shuts rs done q) xs)
+  pub low_by : (q : ℕ) → q < most_points → get_or lows q 0 ≡ max clock (greatest (earliest rs done minutes q) xs)
+  pub high_by : (q : ℕ) → q < most_points → get_or highs q 0 ≡ least (bound done minutes q) xs

@@ -1,6 +1,9 @@
 // What the records of a plan say of its points, from what has happened as plain values: one pass keeps the set of shut
 // points and three tables, of the records that keep them shut, of the Lows and of the Highs. A plan that `check` accepts and small minutes are assumed, so that
 // every number fits. A High can be below zero, and is kept 100,000 up. An inner room: it serves `windows` and `steps`.
+
+#![tactic(auto)]
+
 ghost use Rattle.std.specs.Prelude.{◌≡◌, ◌-◌, ◌≤◌, max, min, length};
 ghost use Rattle.points.specs.Sets.{with_of};
 ghost use Rattle.plan.specs.Choice.{if◌then◌else◌};

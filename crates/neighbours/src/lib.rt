@@ -1,6 +1,9 @@
 // The records of a plan that is laid out in rows, listed by a point: where each point's list starts, and where each of its
 // entries goes on, in file order. The room is lent, so that a walk reads only the records that name its point. An inner room: some
 // functions have a `requires`, which every caller is proved to meet; what the rooms hold may be any numbers.
+
+#![tactic(auto)]
+
 ghost use Rattle.std.specs.Prelude.{◌≡◌, ◌<◌, ◌≤◌, replicate};
 ghost use Rattle.plan.specs.Choice.{if◌then◌else◌};
 ghost use Rattle.plan.specs.Limits.{most_records};

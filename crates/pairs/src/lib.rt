@@ -1,5 +1,8 @@
 // The first pair of points, the first point slowest, that is joined by a walk and by no way as short: from the tables of all
 // distances and of the least ways.
+
+#![tactic(auto)]
+
 ghost use Rattle.std.specs.Prelude.{◌≡◌, ◌&&◌, ltb, ◌<◌, ◌≤◌};
 ghost use Rattle.tables.specs.Tables.{side};
 ghost use Rattle.tables.specs.Entries.{at, nowhere};

@@ -2,6 +2,9 @@
 // stuck, and an event's numbers 21 to 30 with the record beside 28. Takes any links, any windows and any values. Where they are
 // an accepted plan's, each answer is the one from the plan's records (`proofs/ByPlan`). An inner room: it serves an engine that
 // keeps the windows and does not carry the plan along.
+
+#![tactic(auto)]
+
 ghost use Rattle.std.specs.Prelude.{◌≡◌};
 ghost use Rattle.windows.specs.Inside.{latest_from};
 ghost use Rattle.planless.specs.ByWindows.{stuck_by, later_by, number_by, with_record};

@@ -14,7 +14,7 @@ use Rattle.network.proofs.Laws.{over}
 use Rattle.tables.specs.declared.table.Part.{Part}
 use Rattle.tables.specs.declared.table.Part.TheVariants.{All, Rising}
 use Rattle.pairs.specs.declared.Pair.TheVariants.{None, At}
-use Rattle.tables.specs.Tables.{Table, none}
+use Rattle.tables.specs.Tables.{Table}
 use Rattle.tables.specs.Entries.{at, Shallow}
 use Rattle.tables.specs.Distances.{Inside, Distances}
 use Rattle.tables.specs.Steps.{PartOf}
@@ -24,7 +24,7 @@ use Rattle.rows.proofs.Lays.{inside}
 use Rattle.projection.specs.Findings.{JudgeReady}
 use Rattle.projection.specs.Judging.{Before, FirstBad}
 use Rattle.pairs.specs.Pairs.{Kept, Undercut, FirstPair, no_pair, pair}
-use Rattle.rounds.specs.Ways.{Ways, LeastWays, RoundReady, Settled}
+use Rattle.rounds.specs.Ways.{LeastWays, RoundReady, Settled}
 use Rattle.projection.proofs.Laws.{same_distances, fine_outside, ends}
 use Rattle.rounds.proofs.Easing.{least_way_lem}
 

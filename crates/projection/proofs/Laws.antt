@@ -1,11 +1,11 @@
 -- Edges between the points of a plan, and edges that are the same either way. Assumes nothing.
 use mathlib.Core.Path.{◌≡◌, refl, subst}
-use Prim.Native.Nat.{ℕ, ◌+◌, ◌<◌, ◌≤◌}
+use Prim.Native.Nat.{ℕ, ◌<◌}
 use native.Mathlib.Omega.{arith}
-use Rattle.network.specs.Walks.{Walk, nil, step, Negative, NonNegative, Vee, vee}
-use Rattle.network.specs.Passing.{Joined, Cycle, Consistent, Shortest, Fine, Bad, Good}
+use Rattle.network.specs.Walks.{Walk, nil, step, Vee, vee}
+use Rattle.network.specs.Passing.{Joined, Cycle, Consistent, Shortest, Fine, Good}
 use Rattle.network.proofs.Laws.{over}
-use Rattle.tables.specs.Tables.{Table, bias, none}
+use Rattle.tables.specs.Tables.{Table}
 use Rattle.tables.specs.Distances.{Inside, Distances}
 pub use Rattle.rounds.proofs.Easing.{ends}
 use Rattle.projection.specs.Judging.{FirstBad}

@@ -2,7 +2,7 @@
 -- edges, or that of a negative edge and then a distance, each is that of a walk of negative edges and then non-negative ones. Assumes
 -- nothing.
 use mathlib.Core.Path.{◌≡◌, refl, ap, ◌∙◌}
-use mathlib.Core.Logic.{◌⊎◌, ◌≢◌, inl, inr, ⊎_elim}
+use mathlib.Core.Logic.{◌⊎◌, inl, inr, ⊎_elim}
 use mathlib.Core.Bool.{Bool, true, false, not}
 use mathlib.Core.List.{List}
 use Prim.Native.Nat.{ℕ, zero, suc, ◌+◌, ◌*◌, ◌<◌, ◌≤◌}
@@ -11,7 +11,7 @@ use native.Mathlib.Decide.{dec_lt, ℕ_discrete}
 use lib.ListN.{get_or}
 use Rattle.network.specs.Walks.{nil, step, Negative, NonNegative, Vee, vee}
 use Rattle.network.specs.Passing.{Consistent, Fine, Good}
-use Rattle.tables.specs.declared.table.Part.TheVariants.{All, Rising}
+use Rattle.tables.specs.declared.table.Part.TheVariants.{Rising}
 use Rattle.tables.specs.Tables.{Table, bias, none, side}
 use Rattle.tables.specs.Entries.{wide, raw, at}
 use Rattle.tables.specs.Distances.{Inside, Attained, Distances}

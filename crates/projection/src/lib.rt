@@ -1,6 +1,9 @@
 // One projection of a plan: it has a cycle of negative sum, or a first pair of points that no shortest walk of negative edges
 // and then non-negative ones joins, or it is good. An inner room of the plan test: some functions have a `requires`, which
 // every caller is proved to meet.
+
+#![tactic(auto)]
+
 ghost use Rattle.rows.specs.Sheet.{SheetEdge, SheetReady};
 ghost use Rattle.projection.specs.Findings.{FoundOf, JudgeReady};
 

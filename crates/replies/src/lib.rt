@@ -1,6 +1,9 @@
 // The reply to a board: the first outcome that fits, for an offer the latest, and for an offer, a waiting and a stuck board a state
 // for each point. Document 01, "Board, windows, replies", and document 02, §6. `reply_of` takes any plan and any board. `reply_from` answers without the plan, from any
 // links and any windows; where they are an accepted plan's and a sound board's, its answer is the one from the plan's records (`proofs/ByPlan`).
+
+#![tactic(auto)]
+
 ghost use Rattle.std.specs.Prelude.{◌≡◌};
 ghost use Rattle.replies.specs.Replies.{bare, reply_of};
 ghost use Rattle.replies.specs.Numbers.{outcome_number, call_number};

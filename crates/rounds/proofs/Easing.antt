@@ -1,6 +1,6 @@
 -- Where a walk ends; and a table of ways, lowered by a negative edge. Assumes nothing.
-use mathlib.Core.Path.{◌≡◌, refl}
-use mathlib.Core.Logic.{◌⊎◌, ◌≢◌, ⊎_elim}
+use mathlib.Core.Path.{◌≡◌}
+use mathlib.Core.Logic.{⊎_elim}
 use Prim.Native.Nat.{ℕ, ◌+◌, ◌<◌, ◌≤◌}
 use native.Mathlib.Omega.{arith}
 use native.Mathlib.Decide.{ℕ_discrete}
@@ -9,7 +9,7 @@ use Rattle.network.proofs.Laws.{vee_walk}
 use Rattle.tables.specs.Tables.{Table, bias, none}
 use Rattle.tables.specs.Entries.{depth}
 use Rattle.tables.specs.Distances.{Inside}
-use Rattle.rounds.specs.Ways.{Shorter, Eased, Reached, Ways, Still, LeastWays}
+use Rattle.rounds.specs.Ways.{Eased, Reached, Ways, LeastWays}
 
 -- where a walk from a point of the plan ends
 pub ends : (E : ℕ → ℕ → ℕ → ℕ → Type 0) (n : ℕ) → Inside E n → {X Y u d : ℕ} → X < n → Walk E X Y u d → Y < n

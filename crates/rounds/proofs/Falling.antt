@@ -1,11 +1,11 @@
 -- The negative edge of a row is the one that the row stands for, if any. Assumes nothing.
 use mathlib.Core.Path.{◌≡◌, refl}
 use mathlib.Core.List.{List}
-use Prim.Native.Nat.{ℕ, min, ◌+◌, ◌-◌, ◌<◌, ◌≤◌}
+use Prim.Native.Nat.{ℕ, min, ◌+◌, ◌-◌, ◌<◌}
 use native.Mathlib.Omega.{arith}
 use native.Mathlib.Decide.{ℕ_discrete}
 use borrow.Author.Tests.{eq-eqb, ne_eqb}
-use Rattle.rows.specs.Sheet.{kind_at, from_at, to_at, first_at, second_at, over_at, row_at, by, Laid, ordinary, there, back, wait}
+use Rattle.rows.specs.Sheet.{kind_at, first_at, second_at, over_at, row_at, by, Laid, ordinary, there, back, wait}
 use Rattle.rows.specs.declared.sheet.Row.{Row}
 use Rattle.rounds.specs.declared.Fall.{Fall}
 use Rattle.rounds.specs.Ways.{fall_of}

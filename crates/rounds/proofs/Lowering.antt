@@ -2,15 +2,15 @@
 use mathlib.Core.Path.{◌≡◌, refl, ap, ◌∙◌}
 use mathlib.Core.Logic.{◌⊎◌, ◌≢◌, inl, inr, ⊎_elim}
 use mathlib.Core.List.{List, [], ◌∷◌}
-use Prim.Native.Nat.{ℕ, zero, suc, ◌+◌, ◌*◌, ◌<◌, ◌≤◌}
+use Prim.Native.Nat.{ℕ, suc, ◌+◌, ◌*◌, ◌<◌, ◌≤◌}
 use native.Mathlib.Omega.{arith}
 use native.Mathlib.Decide.{dec_lt, ℕ_discrete}
 use native.Mathlib.Numerals.{add-one}
 use lib.ListN.{length, get_or, set, drop, replicate, length-set, length-replicate, get_or-replicate, drop_of_length-le}
 use lib.Seq.{get_or-set_same, get_or-set_other, drop-cons}
 use Rattle.tables.specs.Tables.{side, room}
-use Rattle.tables.specs.Entries.{nowhere, far, small, wide, raw, at, Lesser}
-use Rattle.tables.proofs.Widths.{wide_in, wide_out, finite, wide_there, wide_mono}
+use Rattle.tables.specs.Entries.{nowhere, far, small, wide, raw, Lesser}
+use Rattle.tables.proofs.Widths.{wide_in, wide_out, wide_there, wide_mono}
 use Rattle.rounds.specs.Ways.{Shorter, sum, Capped, Down, Dropped, DroppedRow, RowReady, RowLowered, LowerReady, LowerDone}
 
 -- ---- the sum

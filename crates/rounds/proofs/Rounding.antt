@@ -1,6 +1,5 @@
 -- Rounds over the negative edges of a sheet. Assumes nothing.
 use mathlib.Core.Path.{◌≡◌, refl, sym, subst, ◌∙◌}
-use mathlib.Core.Logic.{◌⊎◌, inl, inr}
 use mathlib.Core.Bool.{Bool, true, false}
 use mathlib.Core.List.{List}
 use Prim.Native.Nat.{ℕ, ◌+◌, ◌<◌, ◌≤◌}
@@ -13,11 +12,11 @@ use Rattle.tables.specs.Tables.{side}
 use Rattle.tables.specs.Entries.{raw, at}
 use Rattle.tables.proofs.Widths.{wide_in, wide_there}
 use Rattle.tables.specs.Distances.{Inside}
-use Rattle.rows.specs.Sheet.{SheetReady, SheetEdge, Laid, ordinary, there, back, wait, kind_at, row_at, over_at, by}
+use Rattle.rows.specs.Sheet.{SheetReady, SheetEdge, Laid, ordinary, there, back, wait, row_at, over_at, by}
 use Rattle.rows.specs.declared.sheet.Row.{Row}
 use Rattle.rows.proofs.Lays.{inside}
 use Rattle.rounds.specs.declared.Fall.{Fall}
-use Rattle.rounds.specs.Ways.{fall_of, LowerReady, LowerDone, Ways, Still, LeastWays, RoundReady, RowDone, Rounded, Settled, sum}
+use Rattle.rounds.specs.Ways.{fall_of, LowerReady, LowerDone, Still, RoundReady, RowDone, Rounded, Settled, sum}
 use Rattle.rounds.proofs.Easing.{not_far, eased_lower, eased_ways}
 use Rattle.rounds.proofs.Lowering.{unchanged}
 use Rattle.rounds.proofs.Falling.{Falls, fall_at, falls, only_fall}

@@ -2,13 +2,11 @@
 -- what the functions that make the rounds ask and do. A reader of the rules can leave this page out. Assumes nothing.
 use Rattle.std.specs.Prelude.{◌≡◌, ◌⊎◌, ◌≢◌, List, [], ◌∷◌, ℕ, min, ◌+◌, ◌-◌, ◌<◌, ◌≤◌, eqb, length, get_or}
 use Rattle.plan.specs.Choice.{if◌then◌else◌}
-use Rattle.plan.specs.Limits.{farthest}
 use Rattle.network.specs.Walks.{Walk, NonNegative, Vee}
-use Rattle.network.specs.Passing.{Consistent}
 use Rattle.tables.specs.Tables.{Table, bias, none, side, room}
 use Rattle.tables.specs.Entries.{nowhere, far, small, raw, at, Lesser, Shallow}
 use Rattle.tables.specs.Distances.{Distances}
-use Rattle.rows.specs.Sheet.{SheetReady, SheetEdge, Laid, row_at, by, over_at}
+use Rattle.rows.specs.Sheet.{SheetReady, SheetEdge, Laid}
 use Rattle.rows.specs.declared.sheet.Row.{Row}
 use Rattle.rounds.specs.declared.Fall.{Fall}
 

@@ -1,6 +1,9 @@
 // Tables of ways: walks of negative edges and then non-negative ones. The table of the non-negative edges, closed, becomes
 // that of the least ways by rounds over the negative edges, each of which may lower the row of the point that it leaves by
 // the row of the point that it leads to. They go on until a round changes nothing.
+
+#![tactic(auto)]
+
 ghost use Rattle.std.specs.Prelude.{◌≡◌, ◌+◌, ◌<◌, ◌≤◌, min, ◌-◌};
 ghost use Rattle.tables.specs.Entries.{nowhere};
 ghost use Rattle.rounds.specs.Ways.{Capped, Dropped, DroppedRow, RowReady, RowLowered, LowerReady, LowerDone, fall_of, sum, RoundReady, RowDone, Rounded, Settled};

@@ -1,5 +1,5 @@
 -- A plan laid out on a sheet, record by record. Assumes nothing.
-use mathlib.Core.Path.{◌≡◌, refl, sym, ap, ◌∙◌}
+use mathlib.Core.Path.{◌≡◌, refl, sym, ap, ◌∙◌, subst}
 use mathlib.Core.Logic.{◌≢◌}
 use mathlib.Core.Bool.{Bool, true, false, ◌&&◌}
 use mathlib.Core.List.{List, [], ◌∷◌}
@@ -175,7 +175,11 @@ module _ {p : Plan} {t : List ℕ} {q : ℕ} (s : Starting p t q) (h : 0 < q) wh
 
       each : (c : ℕ) → c < bytes → Dec (c ≡ (get_or p.records (q - 1) blank).b)
           → get_or (set t (get_or p.records (q - 1) blank).b v) c 0 ≡ (first_that (ends_at c) (get_or p.records (q - 1) blank ∷ drop q (records_of p))).a
-      each c l (yes i) = rw i (get_or-set_same t r.b v 0 (omega (arith, s.long)) ∙ e ∙ own (is link r) refl)
+      each c l (yes i) =
+          subst
+          (λ (x : ℕ). get_or (set t (get_or p.records (q - 1) blank).b v) x 0 ≡ (first_that (ends_at x) (get_or p.records (q - 1) blank ∷ drop q (records_of p))).a)
+          (sym i)
+          (get_or-set_same t r.b v 0 (omega (arith, s.long)) ∙ e ∙ own (is link r) refl)
       each c l (no i) = get_or-set_other t r.b c v 0 i ∙ s.each c l ∙ sym (rw (ne_eqb c r.b i) (passed (is link r) r (first_that (ends_at c) (drop q (records_of p)))))
 
 pub starting_all : {p : Plan} {t : List ℕ} {q : ℕ} → Starting p t q → q ≡ 0 → Starts (records_of p) t

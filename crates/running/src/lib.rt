@@ -2,6 +2,9 @@
 // and the numbers 24 to 27 for an event's minute and its set. Takes any table and any values. Of an accepted plan's table each
 // answer is the one from the plan's records (`proofs/ByRecords`). An inner room: it serves `board`, which goes over no records
 // for the few links, and an engine that does not carry the plan along.
+
+#![tactic(auto)]
+
 ghost use Rattle.std.specs.Prelude.{◌≡◌};
 ghost use Rattle.points.specs.Sets.{members_of, every};
 ghost use Rattle.running.specs.ByTable.{runs_to, any_runs, sound_to, sound_at, not_late_to, not_late_at, set_number_of};

@@ -1,5 +1,8 @@
 // When what a board holds is sound, clause by clause, by the records of any plan or by a table of links: on a clock, the done points, a
 // minute for each point and the number of the event that did it. Takes any of them. An inner room: it serves `board`.
+
+#![tactic(auto)]
+
 ghost use Rattle.std.specs.Prelude.{◌≡◌, ◌&&◌};
 ghost use Rattle.points.specs.Sets.{below_of};
 ghost use Rattle.plan.specs.APlan.{records_of};

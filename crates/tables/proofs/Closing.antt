@@ -29,7 +29,7 @@ within_next small pivot p h x y hx hy e =
     let c = p.cell x y hx hy in
     ⊎_elim (λ i. omega (arith, h x y hx hy (omega arith))) (λ i. omega (arith, h x _ hx pivot i.0, h _ y pivot hy i.1)) c.from
 
-pub within : {n k : ℕ} {f g : Table} → n ≤ side → Within farthest n f → Closing n f k g → (k ≤ n) × Within (farthest * 2 ^ k) n g
+pub within : {n : ℕ} {f : Table} {k : ℕ} {g : Table} → n ≤ side → Within farthest n f → Closing n f k g → (k ≤ n) × Within (farthest * 2 ^ k) n g
 within few h first = (omega arith, λ x y hx hy e. omega (arith, h x y hx hy e))
 within few h (next {k} c p s passed) =
     let r = within few h c in
@@ -144,7 +144,7 @@ module _ (E : ℕ → ℕ → ℕ → ℕ → Type 0) where
       shut (next c p s passed) = turn c p s passed (shut c)
 
       -- the distances, and no cycle of negative sum; or one
-      outside : {X u d : ℕ} → (X < n → ⊥) → Walk E X X u d → d ≤ u
+      outside : {X Y u d : ℕ} → (X < n → ⊥) → Walk E X Y u d → d ≤ u
       outside h nil = omega arith
       outside h (step e w) = absurd (h (inside _ _ _ _ e).0)
 

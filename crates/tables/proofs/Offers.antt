@@ -11,7 +11,7 @@ use Rattle.network.proofs.Laws.{over}
 use Rattle.plan.specs.Limits.{farthest}
 use Rattle.tables.specs.declared.table.Part.{Part}
 use Rattle.tables.specs.Tables.{Table, bias, none, side, Within}
-use Rattle.tables.specs.Entries.{raw, wide, at, Sound}
+use Rattle.tables.specs.Entries.{wide, at, Sound}
 use Rattle.tables.specs.Distances.{Attained, Inside, Drawn}
 use Rattle.tables.specs.Steps.{Offered, Offers, OfferedOf, takes_of, PartOf}
 

@@ -1,13 +1,12 @@
 -- A table that is closed keeps its numbers near zero, or its edges have a cycle of negative sum: a walk between n points that is
 -- longer than n edges comes back to a point, and what it went round can be left out. Assumes nothing.
-use mathlib.Core.Path.{◌≡◌, refl, sym, subst, ap}
+use mathlib.Core.Path.{◌≡◌, refl, subst, ap}
 use mathlib.Core.Logic.{◌⊎◌, ◌≢◌, inl, inr, ⊎_elim}
 use mathlib.Core.List.{List, [], ◌∷◌}
 use Prim.Native.Nat.{ℕ, zero, suc, ◌+◌, ◌*◌, ◌<◌, ◌≤◌}
 use native.Mathlib.Omega.{arith}
 use native.Mathlib.Decide.{dec_lt, ℕ_discrete}
 use native.Mathlib.Nat.{suc-mul}
-use native.Mathlib.Numerals.{add-one}
 use lib.ListN.{length}
 use Rattle.network.specs.Walks.{Walk, nil, step}
 use Rattle.network.specs.Passing.{Cycle}
@@ -65,6 +64,7 @@ is_below_lem (suc k) p h = elim (ℕ_discrete p k) [
 
 pub below_is : (k p : ℕ) → Among p (below k) → p < k
 unfolding below
+below_is zero p x' = elim x' [ ]
 below_is (suc k) p here = omega arith
 below_is (suc k) p (later m) = omega (arith, below_is k p m)
 

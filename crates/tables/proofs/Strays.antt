@@ -1,6 +1,6 @@
 -- No entry of a table that is being closed is far from zero: of the points passed none is below zero from itself to itself, so what a
 -- walk goes round among them can be left out. Assumes nothing.
-use mathlib.Core.Path.{◌≡◌}
+use mathlib.Core.Path.{◌≡◌, refl}
 use mathlib.Core.Logic.{◌⊎◌, inl, inr, ⊎_elim}
 use mathlib.Core.List.{List}
 use Prim.Native.Nat.{ℕ, ◌+◌, ◌-◌, ◌*◌, ◌<◌, ◌≤◌}
@@ -25,10 +25,10 @@ module _ (E : ℕ → ℕ → ℕ → ℕ → Type 0) where
   weaken (one e) = one e
   weaken (more e l w) = more e (omega arith) (weaken w)
 
-  join : {k X Y u d u' d' : ℕ} → Through E k X k u d → Through E k k Y u' d' → Through E (k + 1) X Y (u + u') (d + d')
-  join stay v = simp zero-add (weaken v)
-  join (one e) v = more e (omega arith) (weaken v)
-  join (more e l w) v = simp add_assoc (more e (omega arith) (join w v))
+  join : {k X Z Y u d u' d' : ℕ} → Z ≡ k → Through E k X Z u d → Through E k Z Y u' d' → Through E (k + 1) X Y (u + u') (d + d')
+  join q stay v = simp zero-add (weaken v)
+  join q (one e) v = more e (omega arith) (weaken v)
+  join q (more e l w) v = simp add_assoc (more e (omega arith) (join q w v))
 
   -- two walks that meet at a point below k
   chain : {k X Z Y u d u' d' : ℕ} → Z < k → Through E k X Z u d → Through E k Z Y u' d' → Through E k X Y (u + u') (d + d')
@@ -149,7 +149,7 @@ module _ (n : ℕ) (few : n ≤ side) (f : Table) (self : (X : ℕ) → X < n �
       old a i = record { up = a.up; down = a.down; walk = weaken T a.walk; weight = omega (arith, a.weight) }
 
       new : Held k X k (g X k) → Held k k Y (g k Y) → h X Y + bias ≡ g X k + g k Y → Held (k + 1) X Y (h X Y)
-      new a b i = record { up = a.up + b.up; down = a.down + b.down; walk = join T a.walk b.walk; weight = omega (arith, a.weight, b.weight) }
+      new a b i = record { up = a.up + b.up; down = a.down + b.down; walk = join T refl a.walk b.walk; weight = omega (arith, a.weight, b.weight) }
 
   -- none of the points passed is below zero from itself to itself: by the point k it would come back to k below zero
   passed_calm : {k : ℕ} {g : Table} → Closing n f k g → (x : ℕ) → x < k → bias ≤ g x x
@@ -170,16 +170,17 @@ module _ (n : ℕ) (few : n ≤ side) (f : Table) (self : (X : ℕ) → X < n �
 
   -- so there is no cycle of negative sum among them
   no_cycle : {k : ℕ} {g : Table} → Closing n f k g → Cycle (Only T (below k)) → ⊥
-  no_cycle {k} {g} c z = go z.walk z.below
+  no_cycle {k} {g} c z = go z.walk refl z.below
     where
       in_n : k ≤ n
       in_n = (within few edges c).0
 
-      go : {x u d : ℕ} → Walk (Only T (below k)) x x u d → u < d → ⊥
-      go nil l = omega arith
-      go {x} {u} {d} (step e w) l =
-          let lx = below_is k x (landed T e.to w) in
-          omega (arith, passed_calm c x lx, ((shut T n in_T few f drawn_T c).bound x x u d (omega (arith, in_n)) (through T (step e w))).1)
+      go : {x y u d : ℕ} → Walk (Only T (below k)) x y u d → x ≡ y → u < d → ⊥
+      go nil q l = omega arith
+      go {x} {y} {u} {d} (step e w) q l =
+          let ly = below_is k y (landed T e.to w) in
+          let b = ((shut T n in_T few f drawn_T c).bound x y u d (omega (arith, in_n)) (through T (step e w))).1 in
+          omega (arith, passed_calm c y ly, rw q at b)
 
   -- No entry is far from zero.
   pub never_far : {k : ℕ} {g : Table} → Closing n f k g → (X Y : ℕ) → X < n → Y < n → g X Y < none → (bias ≤ g X Y + (side + 2) * farthest) × (g X Y ≤ bias + (side + 2) * farthest)

@@ -6,7 +6,7 @@ use Prim.Native.Nat.{ℕ, ◌+◌, ◌*◌, ◌<◌, ◌≤◌}
 use native.Mathlib.Omega.{arith}
 use native.Mathlib.Decide.{dec_lt}
 use borrow.Author.Tests.{lt-ltb, le-ltb}
-use Rattle.tables.specs.Tables.{bias, none, side, Best}
+use Rattle.tables.specs.Tables.{none, side, Best}
 use Rattle.tables.specs.Entries.{middle, nowhere, wide, raw, at, Sound, Shallow}
 
 pub wide_in : (v : ℕ) → v < nowhere → wide v ≡ v + 1125899369971712

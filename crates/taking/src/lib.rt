@@ -1,6 +1,9 @@
 // An event on what a board holds: its number with the record beside it, and the clock, the done points, their minutes and the numbers
 // of their events after it, from links and windows that are given, with no plan. Takes any of them and any bytes. An inner
 // room: it serves `board`.
+
+#![tactic(auto)]
+
 ghost use Rattle.std.specs.Prelude.{◌≡◌, [], ◌∷◌};
 ghost use Rattle.points.specs.Sets.{members_of};
 ghost use Rattle.taking.specs.Steps.{marked_by, points_of, next_of, step_by, SetFits};

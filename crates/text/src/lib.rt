@@ -1,5 +1,8 @@
 // The lines that the programs print, as proved text: which words and numbers each line has. How a line is spelt is `lines`.
 // Document 01, "The printing program".
+
+#![tactic(auto)]
+
 ghost use Rattle.std.specs.Prelude.{◌≡◌};
 ghost use Rattle.text.specs.Lines.{plan_line, event_line, reply_line, test_line, board_line, point_line, tail_line, verdict_line, end_line, numbers_line};
 

@@ -1,7 +1,7 @@
 -- Document 02, §8, the test computed on the smallest plans whose links hang on one another: a chain of two passes, so does a fork,
 -- and a ring of two has a cycle at the first projection. Assumes nothing.
 use mathlib.Core.Path.{◌≡◌, refl}
-use mathlib.Core.List.{List, [], ◌∷◌}
+use mathlib.Core.List.{[], ◌∷◌}
 use Rattle.plan.specs.APlan.{plan_of, how_many, some, first_that}
 use Rattle.plan.specs.ReplyNumbers.{check_with, first_bad_with, number_for_with, last_kind}
 use Rattle.plan.specs.Haul.{a_point, a_link}

@@ -29,6 +29,7 @@ pub data In : List Arc → ℕ → ℕ → ℕ → ℕ → Type 0 where
 
 module _ {X Y u d : ℕ} where
   in_front_lem : (es fs : List Arc) → In es X Y u d → In (es ++ fs) X Y u d
+  in_front_lem [] fs x' = elim x' [ ]
   in_front_lem (e ∷ es) fs (here a b f g) = here a b f g
   in_front_lem (e ∷ es) fs (later m) = later (in_front_lem es fs m)
 
@@ -63,13 +64,16 @@ module _ (rs : List Record) (w : List ℕ) {X Y u d : ℕ} where
     where
       of_ordinary : r.kind ≡ 3 → In (arc r.a r.b (gap_of r.first).up (gap_of r.first).down ∷ []) X Y u d → Gives rs w r X Y u d
       of_ordinary k (here a b f g) = ordinary_gives k a b f g
+      of_ordinary k (later m) = elim m [ ]
 
       of_link : r.kind ≡ 2 → In (arc r.a r.b (by w r.b) 0 ∷ arc r.b r.a 0 (by w r.b) ∷ []) X Y u d → Gives rs w r X Y u d
       of_link k (here a b f g) = there_gives k a b f g
       of_link k (later (here a b f g)) = back_gives k a b f g
+      of_link k (later (later m)) = elim m [ ]
 
       of_wait : r.kind ≡ 4 → In (arc r.a (link_to rs r.b).a 0 (min (gap_of r.first).up (by w r.b)) ∷ []) X Y u d → Gives rs w r X Y u d
       of_wait k (here a b f g) = wait_gives k a b f g
+      of_wait k (later m) = elim m [ ]
 
       nothing : In [] X Y u d → Gives rs w r X Y u d
       nothing m = elim m [ ]
@@ -82,6 +86,7 @@ module _ (rs : List Record) (w : List ℕ) {X Y u d : ℕ} where
 
   of_arcs : (more : List Record) → In (arcs rs w more) X Y u d → (q : ℕ) × (q < length more) × Gives rs w (get_or more q blank) X Y u d
   unfolding arcs
+  of_arcs [] m = elim m [ ]
   of_arcs (r ∷ more) m = go (in_either (arcs_of rs w r) m) (λ m. of_arcs more m)
     where
       go : In (arcs_of rs w r) X Y u d ⊎ In (arcs rs w more) X Y u d → (In (arcs rs w more) X Y u d → (q : ℕ) × (q < length more) × Gives rs w (get_or more q blank) X Y u d)

@@ -1,5 +1,5 @@
 -- What the three tables of the computed test say of a network: a pair is fine or bad as they have it. Assumes nothing.
-use mathlib.Core.Path.{◌≡◌, refl}
+use mathlib.Core.Path.{◌≡◌}
 use Prim.Native.Nat.{ℕ, ◌+◌, ◌<◌, ◌≤◌}
 use native.Mathlib.Omega.{arith}
 use Rattle.network.specs.Walks.{Negative, NonNegative, Vee, vee}

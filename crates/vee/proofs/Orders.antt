@@ -1,5 +1,5 @@
 -- The kinds of a plan's records never fall, so its links are the rows after its points, in order. Assumes nothing.
-use mathlib.Core.Path.{◌≡◌, refl, subst, ◌∙◌}
+use mathlib.Core.Path.{◌≡◌, refl, subst, ap, ◌∙◌}
 use mathlib.Core.Bool.{true}
 use mathlib.Core.List.{List, [], ◌∷◌, ◌++◌}
 use Prim.Native.Nat.{ℕ, suc, ◌+◌, ◌-◌, ◌<◌, ◌≤◌}
@@ -83,21 +83,30 @@ module _ (s : List ℕ) (RS : List Record) where
   span_is : (q : ℕ) (r : Record) → r.kind ≡ 2 → RowIs s q (row_of RS r) → span_at s q ≡ span_of r
   span_is q r e x = rw (x.over, x.first, second_link s q RS r x e) refl
 
+  spans_none : (p : ℕ) → spans_in s p 0 ≡ []
+  unfolding spans_in
+  spans_none p = refl
+
+  spans_next : (q n : ℕ) → spans_in s (q + suc n) (suc n) ≡ span_at s q ∷ spans_in s (suc q + n) n
+  unfolding spans_in
+  spans_next q n =
+      let z : q + suc n - suc n ≡ q = omega arith in
+      let y : q + suc n ≡ suc q + n = omega arith in
+      cc (ap (λ (p : ℕ). span_at s p) z, ap (λ (p : ℕ). spans_in s p n) y)
+
   -- the links of rs are the spans of as many rows, from where its points end
   in_links : {k : ℕ} {rs : List Record} → 1 < k → Up k rs → (q : ℕ) → RowsFrom s RS q rs → spans_in s (q + how_many (is link) rs) (how_many (is link) rs) ≡ spans rs
-  unfolding how_many spans spans_in
-  in_links h up_none q rows = refl
+  unfolding how_many spans
+  in_links h up_none q rows = spans_none (q + 0)
   in_links h (up_more {r = r} {rs = rs} l u) q rows = elim (ℕ_discrete r.kind 2) [
     | yes e ↦
         let i = in_links (omega arith) u (suc q) (tail_rows q r rs rows) in
         let a = here r rs 2 e in
-        let z : q + suc (how_many (is link) rs) - suc (how_many (is link) rs) ≡ q = omega arith in
-        let y : q + suc (how_many (is link) rs) ≡ suc q + how_many (is link) rs = omega arith in
-        rw (a, span_here r rs e, z, y) (rw (span_is q r e (head_row q r rs rows), i) refl)
+        rw (a, span_here r rs e, spans_next q (how_many (is link) rs)) (rw (span_is q r e (head_row q r rs rows), i) refl)
     | no e ↦
         let p = past_links (omega arith) u in
         let a : how_many (is link) (r ∷ rs) ≡ 0 = not_here r rs 2 e ∙ p.1 in
-        rw (a, span_not r rs e, p.0) refl
+        rw (a, span_not r rs e, p.0) (spans_none _)
   ]
 
   pub from_start : {k : ℕ} {rs : List Record} → 0 < k → Up k rs → (q : ℕ) → RowsFrom s RS q rs

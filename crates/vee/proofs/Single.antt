@@ -10,7 +10,6 @@ use Rattle.network.specs.Passing.{Good}
 use Rattle.network.proofs.Laws.{not_both, not_fine}
 use Rattle.plan.specs.declared.Plan.{Plan}
 use Rattle.vee.specs.declared.Answer.{Answer}
-use Rattle.vee.specs.declared.Answer.TheVariants as answer
 use Rattle.projection.specs.Judging.{Before, FirstBad}
 use Rattle.vee.specs.PlanTest.{Found, all_good, good, cycle, pair, Tested, refused, too_many, tested, answer_number, test_number}
 

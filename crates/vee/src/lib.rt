@@ -1,5 +1,8 @@
 // The plan test of document 01: every projection of a plan in order, each with a cycle of negative sum or the first pair of
 // points that no shortest walk of negative edges and then non-negative ones joins. It takes any plan.
+
+#![tactic(auto)]
+
 ghost use Rattle.vee.specs.PlanTest.{Tested, answer_number, test_number};
 ghost use Rattle.std.specs.Prelude.{◌≡◌};
 

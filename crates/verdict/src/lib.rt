@@ -1,6 +1,9 @@
 // The closing verdict: the first record that is not kept, in file order. Document 01, "Verdict and plan test". `ended` and
 // `verdict_of` take any plan and any board. The judges of one record work on plain numbers, any whatever; the pass over the
 // records assumes a plan that is accepted.
+
+#![tactic(auto)]
+
 ghost use Rattle.std.specs.Prelude.{◌≡◌, ◌+◌, ◌-◌, min, leb};
 ghost use Rattle.plan.specs.APlan.{records_of};
 ghost use Rattle.plan.specs.ReplyNumbers.{check_of};

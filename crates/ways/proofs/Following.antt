@@ -1,21 +1,20 @@
 -- The steps that the search found, followed from the way's start: they lead to its end, and come to the distance. Assumes nothing.
 use mathlib.Core.Path.{◌≡◌, refl, sym, ap, ◌∙◌}
 use mathlib.Core.List.{List, [], ◌∷◌, ◌++◌}
-use Prim.Native.Nat.{ℕ, zero, suc, ◌+◌, ◌-◌, ◌<◌, ◌≤◌}
+use Prim.Native.Nat.{ℕ, suc, ◌+◌, ◌-◌, ◌<◌, ◌≤◌}
 use native.Mathlib.Omega.{arith}
 use lib.ListN.{length, get_or, set, replicate, length-append}
 use Rattle.numbers.specs.Fits.{All}
 use Rattle.network.specs.Walks.{nil}
-use Rattle.tables.specs.Tables.{bias, side}
-use Rattle.tables.specs.Entries.{raw, at, middle, nowhere}
+use Rattle.tables.specs.Tables.{side}
+use Rattle.tables.specs.Entries.{raw, middle}
 use Rattle.tables.proofs.Widths.{wide_in, finite}
-use Rattle.rows.specs.Sheet.{SheetEdge}
 use Rattle.projection.proofs.Judges.{all_edges, all_consistent}
 use lib.Seq.{set_at, append_snoc}
 use Rattle.ways.specs.declared.steps.Step.{Step}
 use Rattle.ways.specs.declared.steps.Way.{Way}
-use Rattle.ways.specs.Steps.{Leads, ups, downs, no_step, no_steps, way_as, StepIn}
-use Rattle.ways.specs.Toward.{ReachAsks, Linked, Onward, Ordered, Reached, FollowAsks, Trail, Followed, WayAsks, WayOf}
+use Rattle.ways.specs.Steps.{Leads, ups, downs, no_step, no_steps, StepIn}
+use Rattle.ways.specs.Toward.{Onward, Ordered, Reached, FollowAsks, Trail, Followed, WayAsks, WayOf}
 
 -- the next place of a list that is filled from the front
 pub stored : {A : Type 0} (xs : List A) (i m : ℕ) (v z : A) → length xs ≡ i → i < m → set (xs ++ replicate (m - i) z) i v ≡ (xs ++ (v ∷ [])) ++ replicate (m - (i + 1)) z

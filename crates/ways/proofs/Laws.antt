@@ -1,21 +1,18 @@
 -- The edges of a sheet's rows as steps, and the sums of steps. Assumes nothing.
-use mathlib.Core.Path.{◌≡◌, refl, sym, ap, ◌∙◌}
-use mathlib.Core.Bool.{Bool, true, false, ◌&&◌}
+use mathlib.Core.Path.{◌≡◌, refl, sym, ◌∙◌}
+use mathlib.Core.Bool.{Bool, true, false}
 use mathlib.Core.List.{List, [], ◌∷◌, ◌++◌}
-use Prim.Native.Nat.{ℕ, zero, suc, min, ◌+◌, ◌-◌, ◌*◌, ◌/◌, ◌%◌, ◌<◌, ◌≤◌}
+use Prim.Native.Nat.{ℕ, zero, suc, min, ◌+◌, ◌*◌, ◌/◌, ◌%◌, ◌<◌, ◌≤◌}
 use native.Mathlib.Omega.{arith}
 use native.Mathlib.Decide.{ℕ_discrete}
 use lib.Dec.{eqb, ltb}
-use lib.ListN.{length, get_or}
-use borrow.Author.Tests.{ne_eqb, eq-eqb, ltb-true}
+use borrow.Author.Tests.{ne_eqb, ltb-true}
 use Rattle.numbers.specs.Fits.{All}
 use Rattle.plan.specs.Limits.{farthest}
-use Rattle.tables.specs.Tables.{side}
 use Rattle.rows.specs.declared.sheet.Row.{Row}
 use Rattle.rows.specs.Sheet.{row_at, by, kind_at, from_at, to_at, first_at, second_at, over_at, Laid, ordinary, there, back, wait, SheetReady}
 use Rattle.ways.specs.declared.steps.Step.{Step}
 use Rattle.ways.specs.Steps.{Leads, ups, downs, step_of, step_at, is_edge, StepIn}
-use Rattle.ways.specs.Toward.{ExtendAsks}
 
 abbrev pub step_as : ℕ → ℕ → ℕ → ℕ → ℕ → Step
 step_as q X Y u d = record { row = q; from = X; to = Y; up = u; down = d }

@@ -1,7 +1,6 @@
 -- The search back from a way's end: each point that is reached goes on by a step that a shortest way can take, and where no edge leads to
 -- one more, every point that is joined to the end is reached. Assumes nothing.
-use mathlib.Core.Path.{◌≡◌, refl, sym, ap, ◌∙◌}
-use mathlib.Core.Logic.{◌≢◌}
+use mathlib.Core.Path.{◌≡◌, refl, sym, ◌∙◌}
 use mathlib.Core.Bool.{Bool, true, false, not, ◌&&◌}
 use mathlib.Core.List.{List, [], ◌∷◌}
 use Prim.Native.Nat.{ℕ, zero, suc, ◌+◌, ◌*◌, ◌/◌, ◌<◌, ◌≤◌}
@@ -14,17 +13,16 @@ use borrow.Author.Tests.{eqb-true, eq-eqb, ne_eqb, ltb-true, lt-ltb}
 use Rattle.plan.specs.APlan.{one}
 use Rattle.plan.specs.Limits.{most_records}
 use Rattle.network.specs.Walks.{Walk, nil, step}
-use Rattle.tables.specs.declared.table.Part.TheVariants.{All}
 use Rattle.tables.specs.Tables.{bias, none, side}
-use Rattle.tables.specs.Entries.{raw, at, nowhere}
+use Rattle.tables.specs.Entries.{raw, at}
 use Rattle.tables.specs.Distances.{Distances}
 use Rattle.tables.proofs.Widths.{wide_in, finite, wide_there}
-use Rattle.rows.specs.Sheet.{SheetEdge, SheetReady, Laid, kind_at, over_at}
+use Rattle.rows.specs.Sheet.{SheetEdge, kind_at, over_at}
 use Rattle.projection.proofs.Judges.{all_edges}
 use Rattle.ways.specs.declared.steps.Step.{Step}
 use Rattle.ways.specs.Steps.{no_step, no_steps, step_at, is_edge, StepIn}
-use Rattle.ways.specs.Toward.{ExtendAsks, extends_by, takes_by, TakeAsks, SearchAsks, Searched, ReachAsks, Linked, Onward, Ordered, Reached}
-use Rattle.ways.proofs.Laws.{step_as, step_row, step_fits, Numbered, numbered, laid_fits}
+use Rattle.ways.specs.Toward.{ExtendAsks, takes_by, TakeAsks, SearchAsks, Searched, ReachAsks, Onward, Ordered, Reached}
+use Rattle.ways.proofs.Laws.{step_fits, Numbered, numbered, laid_fits}
 
 -- ---- what an edge that is taken does
 

@@ -6,12 +6,11 @@ use Prim.Native.Nat.{ℕ, min, ◌+◌, ◌*◌, ◌/◌, ◌%◌, ◌<◌, ◌�
 use native.Mathlib.Omega.{arith}
 use native.Mathlib.Decide.{ℕ_discrete, dec_lt}
 use lib.Dec.{ltb}
-use lib.ListN.{length, get_or, set, replicate, length-append}
+use lib.ListN.{length, length-append}
 use borrow.Author.Tests.{ltb-true, lt-ltb}
-use Rattle.numbers.specs.Fits.{All}
 use Rattle.plan.specs.Limits.{most_records}
 use Rattle.network.specs.Walks.{Walk, nil, step}
-use Rattle.network.specs.Passing.{Cycle, Consistent}
+use Rattle.network.specs.Passing.{Consistent}
 use Rattle.network.proofs.Laws.{append, over, not_both}
 use Rattle.tables.specs.declared.table.Part.TheVariants.{All as Every}
 use Rattle.tables.specs.Tables.{bias, none, side}
@@ -23,10 +22,10 @@ use Rattle.rows.specs.Filled.{Filled}
 use Rattle.projection.proofs.Judges.{all_edges, part_cycle}
 use Rattle.ways.specs.declared.steps.Step.{Step}
 use Rattle.ways.specs.declared.steps.Way.{Way}
-use Rattle.ways.specs.Steps.{Leads, ups, downs, no_step, no_steps, way_as, with_step, step_at, is_edge, StepIn}
+use Rattle.ways.specs.Steps.{no_step, way_as, with_step, step_at, is_edge, StepIn}
 use Rattle.ways.specs.Toward.{ExtendAsks, WayAsks, WayOf}
 use Rattle.ways.specs.Round.{closes_by, Open, ClosingAsks, FinishAsks, Closing, RoundAsks, RoundOf}
-use Rattle.ways.proofs.Laws.{step_as, kinds, step_row, step_fits, at_ordinary, at_wait, at_there, at_back, laid_fits, leads_more, ups_more, downs_more, all_more, all_over}
+use Rattle.ways.proofs.Laws.{step_as, kinds, step_fits, at_ordinary, at_wait, at_there, at_back, laid_fits, leads_more, ups_more, downs_more, all_more, all_over}
 use Rattle.ways.proofs.Following.{stored}
 
 -- ---- an edge more

@@ -1,5 +1,5 @@
 -- What the functions that find a cycle of negative sum ask and do. A reader of the rules can leave this page out. Assumes nothing.
-use Rattle.std.specs.Prelude.{◌≡◌, Bool, true, false, ◌&&◌, List, ℕ, ◌+◌, ◌*◌, ◌/◌, ◌<◌, ◌≤◌, ltb, length}
+use Rattle.std.specs.Prelude.{◌≡◌, Bool, true, false, ◌&&◌, List, ℕ, ◌+◌, ◌/◌, ◌<◌, ◌≤◌, ltb, length}
 use Rattle.numbers.specs.Fits.{All}
 use Rattle.network.specs.Walks.{Walk}
 use Rattle.network.specs.Passing.{Cycle, Consistent}

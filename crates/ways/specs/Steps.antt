@@ -1,5 +1,5 @@
 -- The steps of a way, and the edges of a sheet's rows as steps, two for each row. Assumes nothing.
-use Rattle.std.specs.Prelude.{◌≡◌, Bool, true, false, ◌&&◌, List, [], ◌∷◌, ◌++◌, ℕ, min, ◌+◌, ◌-◌, ◌/◌, ◌%◌, ◌<◌, ◌≤◌, eqb, ltb, length, replicate, set}
+use Rattle.std.specs.Prelude.{◌≡◌, Bool, ◌&&◌, List, [], ◌∷◌, ◌++◌, ℕ, min, ◌+◌, ◌-◌, ◌/◌, ◌%◌, ◌<◌, eqb, ltb, length, replicate, set}
 use Rattle.plan.specs.Choice.{if◌then◌else◌}
 use Rattle.tables.specs.Tables.{side}
 use Rattle.rows.specs.declared.sheet.Row.{Row}

@@ -5,7 +5,7 @@ use Rattle.plan.specs.Limits.{farthest}
 use Rattle.tables.specs.declared.table.Part.TheVariants.{All as Every}
 use Rattle.tables.specs.Tables.{side}
 use Rattle.tables.specs.Entries.{raw, middle, nowhere}
-use Rattle.rows.specs.Sheet.{SheetReady, Laid, kind_at}
+use Rattle.rows.specs.Sheet.{SheetReady, kind_at}
 use Rattle.rows.specs.Filled.{Filled}
 use Rattle.ways.specs.declared.steps.Step.{Step}
 use Rattle.ways.specs.declared.steps.Way.{Way}

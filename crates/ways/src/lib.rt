@@ -1,6 +1,9 @@
 // Ways through a projection of a plan laid out in rows: the steps of a shortest way from one point to another, and those of a cycle of
 // negative sum. Each step is an edge of the row that it names. An inner room of `explained`: some functions have a `requires`, which
 // every caller is proved to meet.
+
+#![tactic(auto)]
+
 mod round;
 mod steps;
 mod toward;

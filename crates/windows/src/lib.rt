@@ -1,6 +1,9 @@
 // The windows of the foreman's points not yet done, from what has happened as plain values: which are open, the record that
 // keeps each of the others shut, each one's Low, and H; then what is asked of them. A plan that `check` accepts and small minutes are assumed, so that every number fits.
 // High and H can be below zero, and are kept 100,000 up. An inner room: it serves `board` and the crates around it.
+
+#![tactic(auto)]
+
 ghost use Rattle.std.specs.Prelude.{◌≡◌};
 ghost use Rattle.points.specs.Sets.{members_of};
 ghost use Rattle.plan.specs.APlan.{records_of};

@@ -1,0 +1,6 @@
+-- `board::standing::is_finished` meets its contract. Assumes nothing.
+use borrow.Author.Rules.{rules}
+use Rattle.board.proofs.standing.is_finished.Goals as goal
+
+pub returns : goal.returns
+returns c = rw c.all_points.ensures

@@ -1,0 +1,20 @@
+-- `calls::all_unnumbered` meets its contract. Assumes nothing.
+use borrow.Author.Rules.{rules}
+use native.Mathlib.Omega.{arith}
+use mathlib.Core.Path.{◌≡◌, refl, sym, ◌∙◌}
+use borrow.Author.Tests.{not-true, not-false}
+use Prim.Native.Nat.{◌≤◌, ◌-◌}
+use Rattle.points.specs.Sets.{from, every}
+use Rattle.plan.specs.Limits.{most_points}
+use Rattle.history.proofs.Walks.{points_fails, points_turn, points_end}
+use Rattle.calls.specs.Calls.{unnumbered}
+use mathlib.Core.Path.{ap}
+use mathlib.Core.Bool.{not}
+use Rattle.calls.proofs.all_unnumbered.Given as goal
+
+abbrev pub invariant-loop-p : goal.invariant-loop-p
+invariant-loop-p l =
+    (l.p ≤ most_points) × (every (unnumbered l.done l.calls) (from l.p (most_points - l.p)) ≡ every (unnumbered l.done l.calls) (from 0 most_points))
+
+abbrev pub decreases-loop-p : goal.decreases-loop-p
+decreases-loop-p l = most_points - l.p

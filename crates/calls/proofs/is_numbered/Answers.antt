@@ -1,0 +1,13 @@
+-- `calls::is_numbered` meets its contract. Assumes nothing.
+use borrow.Author.Rules.{rules}
+use mathlib.Core.Path.{sym, ◌∙◌}
+use borrow.Author.Tests.{not-true, not-false}
+use Rattle.calls.specs.Calls.{numbered}
+use Rattle.calls.proofs.is_numbered.Goals as goal
+
+pub returns-then-not-all_unnumbered : goal.returns-then-not-all_unnumbered
+unfolding numbered
+returns-then-not-all_unnumbered c = rw (sym c.all_unnumbered.ensures ∙ c.if-not-all_unnumbered.true)
+
+pub done_numbered-requires : goal.done_numbered-requires
+done_numbered-requires c = sym c.all_unnumbered.ensures ∙ c.if-not-all_unnumbered.false

@@ -1,0 +1,26 @@
+-- `history::each::every_record` meets its contract. Assumes nothing.
+use borrow.Author.Rules.{rules}
+use mathlib.Core.Path.{◌≡◌, sym, ◌∙◌}
+use borrow.Author.Tests.{not-true, not-false}
+use Prim.Native.Nat.{◌-◌}
+use lib.ListN.{length, length-map}
+use Rattle.plan.specs.Limits.{most_points}
+use Rattle.history.proofs.Walks.{Left, left_start, left_fails, left_turn, left_end}
+use Rattle.history.specs.Inside.{asked}
+use Rattle.history.proofs.each.every_record.Goals as goal
+
+pub loop-i-init : goal.loop-i-init
+loop-i-init c = (c.well_formed.1.1.1.0.1.0.1, left_start _ c.args.plan _ c.used-n.ensures (c.well_formed.0.1.1.1.0.1.0.1))
+
+pub returns-then-not-is_so_by : goal.returns-then-not-is_so_by
+returns-then-not-is_so_by c =
+    let l = c.loop-i in
+    left_fails _ _ _ l.i l.invariant.1 c.loop-i-test.true (sym c.is_so_by.ensures ∙ c.if-not-is_so_by.true)
+
+pub loop-i-preserved : goal.loop-i-preserved
+loop-i-preserved c =
+    let l = c.loop-i in
+    (l.invariant.0, left_turn _ _ _ l.i l.invariant.1 c.loop-i-test.true (sym c.is_so_by.ensures ∙ c.if-not-is_so_by.false))
+
+pub returns : goal.returns
+returns c = left_end _ _ _ _ c.loop-i.invariant.1 c.loop-i-test.false

@@ -1,0 +1,16 @@
+-- `history::each::every_record` meets its contract. Assumes nothing.
+use borrow.Author.Rules.{rules}
+use mathlib.Core.Path.{◌≡◌, sym, ◌∙◌}
+use borrow.Author.Tests.{not-true, not-false}
+use Prim.Native.Nat.{◌-◌}
+use lib.ListN.{length, length-map}
+use Rattle.plan.specs.Limits.{most_points}
+use Rattle.history.proofs.Walks.{Left, left_start, left_fails, left_turn, left_end}
+use Rattle.history.specs.Inside.{asked}
+use Rattle.history.proofs.each.every_record.Given as goal
+
+abbrev pub invariant-loop-i : goal.invariant-loop-i
+invariant-loop-i l = (length l.minutes ≡ most_points) × Left (asked l.clock l.done l.minutes l.ask) l.plan l.n l.i
+
+abbrev pub decreases-loop-i : goal.decreases-loop-i
+decreases-loop-i l = l.n - l.i

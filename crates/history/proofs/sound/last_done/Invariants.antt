@@ -1,0 +1,18 @@
+-- `history::sound::last_done` meets its contract. Assumes nothing.
+use borrow.Author.Rules.{rules}
+use native.Mathlib.Omega.{arith}
+use mathlib.Core.Path.{◌≡◌, sym, ◌∙◌}
+use mathlib.Core.Logic.{⊎_elim}
+use Prim.Native.Nat.{◌<◌, ◌^◌, max}
+use Rattle.points.specs.Sets.{count_of, members_of}
+use Rattle.points.proofs.Laws.{turn}
+use Rattle.history.specs.History.{largest}
+use Rattle.history.proofs.Walks.{largest_turn, largest_end}
+use Rattle.history.proofs.sound.last_done.Given as goal
+
+abbrev pub invariant-loop-rest : goal.invariant-loop-rest
+invariant-loop-rest l =
+    (l.rest < 2 ^ 32) × (max l.last (largest l.minutes (members_of l.rest)) ≡ largest l.minutes (members_of l.done))
+
+abbrev pub decreases-loop-rest : goal.decreases-loop-rest
+decreases-loop-rest l = count_of l.rest

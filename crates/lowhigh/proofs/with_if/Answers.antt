@@ -1,0 +1,9 @@
+-- `lowhigh::with_if` meets its contract. Assumes nothing.
+use borrow.Author.Rules.{rules}
+use Rattle.lowhigh.proofs.with_if.Goals as goal
+
+pub returns-then-so : goal.returns-then-so
+returns-then-so c = rw c.if-so.true c.with.ensures
+
+pub returns-else-so : goal.returns-else-so
+returns-else-so c = rw c.if-so.false

@@ -1,0 +1,18 @@
+-- `running::none_late` meets its contract. Assumes nothing.
+use borrow.Author.Rules.{rules}
+use native.Mathlib.Omega.{arith}
+use mathlib.Core.Path.{◌≡◌, refl, sym, ◌∙◌}
+use borrow.Author.Tests.{not-true, not-false}
+use Prim.Native.Nat.{◌<◌, ◌^◌}
+use Rattle.points.specs.Sets.{members_of, every, count_of}
+use Rattle.points.proofs.Laws.{turn}
+use Rattle.history.proofs.Walks.{members_fails, members_turn, members_end}
+use Rattle.running.specs.ByTable.{not_late_at}
+use Rattle.running.proofs.none_late.Given as goal
+
+abbrev pub invariant-loop-rest : goal.invariant-loop-rest
+invariant-loop-rest l =
+    (l.rest < 2 ^ 32) × (every (not_late_at l.links l.done l.minutes l.t l.set) (members_of l.rest) ≡ every (not_late_at l.links l.done l.minutes l.t l.set) (members_of l.links.watched))
+
+abbrev pub decreases-loop-rest : goal.decreases-loop-rest
+decreases-loop-rest l = count_of l.rest

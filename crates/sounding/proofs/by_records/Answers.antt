@@ -1,0 +1,9 @@
+-- `sounding::by_records` meets its contract. Assumes nothing.
+use borrow.Author.Rules.{rules}
+use mathlib.Core.Bool.{◌&&◌}
+use Rattle.sounding.proofs.by_records.Goals as goal
+
+pub returns : goal.returns
+returns c =
+    let e = rw c.first_points.ensures at c.sound_else.ensures in
+    λ i. e i && (c.every_record.ensures i && c.every_record-2.ensures i)

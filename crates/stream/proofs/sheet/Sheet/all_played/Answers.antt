@@ -1,0 +1,13 @@
+-- `stream::Sheet::all_played` meets its contract. Assumes nothing.
+use Rattle.stream.proofs.Stages.{all_played_by}
+use Rattle.std.proofs.Common.{rules}
+use Rattle.stream.proofs.sheet.Sheet.all_played.Goals as goal
+
+pub returns : goal.returns
+returns c =
+    let s = c.args in
+    let t = c.take_all-reply.ensures in
+    record {
+      sheet = all_played_by s.self s.events.now s.room.now t.reply c.fewer-n.ensures c.wrapping_add_u64.ensures.value;
+      room = t.room;
+    }

@@ -1,0 +1,6 @@
+-- `ways::round::closes` meets its contract. Assumes nothing.
+use mathlib.Core.Path.{refl}
+use Rattle.ways.proofs.round.closes.Goals as goal
+
+pub returns : goal.returns
+returns c = rw c.wide-back.ensures.0 refl

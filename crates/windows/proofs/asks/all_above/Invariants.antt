@@ -1,0 +1,21 @@
+-- `windows::asks::all_above` meets its contract. Assumes nothing.
+use borrow.Author.Rules.{rules}
+use native.Mathlib.Omega.{arith}
+use mathlib.Core.Path.{◌≡◌, refl, sym, ◌∙◌}
+use borrow.Author.Tests.{not-true, not-false}
+use Prim.Native.Nat.{ℕ, ◌+◌, ◌<◌, ◌^◌}
+use lib.Dec.{ltb}
+use lib.ListN.{get_or}
+use Rattle.points.specs.Sets.{count_of, members_of, every}
+use Rattle.points.proofs.Laws.{turn, first_member}
+use Rattle.plan.specs.Limits.{farthest}
+use Rattle.history.proofs.Walks.{members_fails, members_turn, members_end}
+use Rattle.windows.proofs.asks.all_above.Given as goal
+
+abbrev pub invariant-loop-rest : goal.invariant-loop-rest
+invariant-loop-rest l =
+    (l.rest < 2 ^ 32)
+    × (every (λ (q : ℕ). ltb l.high (get_or l.lows q 0 + farthest)) (members_of l.rest) ≡ every (λ (q : ℕ). ltb l.high (get_or l.lows q 0 + farthest)) (members_of l.initial.rest))
+
+abbrev pub decreases-loop-rest : goal.decreases-loop-rest
+decreases-loop-rest l = count_of l.rest

@@ -1,0 +1,18 @@
+-- `windows::least_high` meets its contract. Assumes nothing.
+use borrow.Author.Rules.{rules}
+use native.Mathlib.Omega.{arith}
+use mathlib.Core.Path.{◌≡◌, sym, ◌∙◌}
+use Prim.Native.Nat.{◌<◌, ◌≤◌, ◌^◌, min}
+use Rattle.points.specs.Sets.{count_of, members_of}
+use Rattle.points.proofs.Laws.{turn, first_member}
+use Rattle.lowhigh.specs.Rules.{never}
+use Rattle.windows.specs.Inside.{least_at}
+use Rattle.windows.proofs.Opening.{least_at_le, least_turn, least_end}
+use Rattle.windows.proofs.least_high.Given as goal
+
+abbrev pub invariant-loop-rest : goal.invariant-loop-rest
+invariant-loop-rest l =
+    (l.rest < 2 ^ 32) × (l.least ≤ never) × (min l.least (least_at l.highs (members_of l.rest)) ≡ least_at l.highs (members_of l.set))
+
+abbrev pub decreases-loop-rest : goal.decreases-loop-rest
+decreases-loop-rest l = count_of l.rest

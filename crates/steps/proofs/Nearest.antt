@@ -164,6 +164,11 @@ module _ (test : ℕ → Bool) (at : ℕ → ℕ) (soon : (q : ℕ) → test q �
   unfolding least_of passing
   skip q qs e = (rw e refl, λ t. rw e refl)
 
+  pass_by : (f : Least) (q : ℕ) (qs : List ℕ) (r : Least) → test q ≡ false → Found f qs r → Found f (q ∷ qs) r
+  pass_by f q qs r e h =
+      let s = skip q qs e in
+      rw (s.0, s.1 (least_of test at qs)) h
+
   found : (found : Least) (qs : List ℕ) → found.minute ≤ never → Found found qs (nearest_from given found qs)
   unfolding nearest_from least_of passing first_or
   found f [] l = (omega arith, rw (le-ltb never f.minute l))
@@ -175,9 +180,8 @@ module _ (test : ℕ → Bool) (at : ℕ → ℕ) (soon : (q : ℕ) → test q �
       go : (c : Bool) → test q ≡ c → ((g : Least) → g.minute ≤ never → Found g qs (nearest_from given g qs))
           → Found f (q ∷ qs) (nearest_from given (nearer f (given q) q) qs)
       go false e on =
-          let s = skip q qs e in
           let z : ltb never f.minute ≡ false = le-ltb never f.minute l in
-          rw (e, z) (on f l)
+          pass_by f q qs (nearest_from given (nearer f (given q) q) qs) e (rw (e, z) (on f l))
       go true e on = sooner (ltb (at q) f.minute) refl (ltb (least_of test at qs) (at q)) refl
         where
           sooner : (c : Bool) → ltb (at q) f.minute ≡ c → (d : Bool) → ltb (least_of test at qs) (at q) ≡ d → Found f (q ∷ qs) (nearest_from given (nearer f (given q) q) qs)

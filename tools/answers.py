@@ -119,7 +119,8 @@ def commas(s):
             now = ""
         else:
             now += ch
-    parts.append(now)
+    if now.strip():
+        parts.append(now)
     return [p.strip() for p in parts] if len(parts) > 1 else None
 
 

@@ -164,10 +164,10 @@ module _ (test : ℕ → Bool) (at : ℕ → ℕ) (soon : (q : ℕ) → test q �
   unfolding least_of passing
   skip q qs e = (rw e refl, λ t. rw e refl)
 
-  pass_by : (f : Least) (q : ℕ) (qs : List ℕ) (r : Least) → test q ≡ false → Found f qs r → Found f (q ∷ qs) r
-  pass_by f q qs r e h =
-      let s = skip q qs e in
-      rw (s.0, s.1 (least_of test at qs)) h
+  -- a point more in front, which is not the first of the least
+  pass_on : (f : Least) (q : ℕ) (qs : List ℕ) (r : Least) → least_of test at (q ∷ qs) ≡ least_of test at qs
+      → passing (hits (least_of test at qs)) (q ∷ qs) ≡ passing (hits (least_of test at qs)) qs → Found f qs r → Found f (q ∷ qs) r
+  pass_on f q qs r s t h = rw (s, t) h
 
   found : (found : Least) (qs : List ℕ) → found.minute ≤ never → Found found qs (nearest_from given found qs)
   unfolding nearest_from least_of passing first_or
@@ -181,7 +181,8 @@ module _ (test : ℕ → Bool) (at : ℕ → ℕ) (soon : (q : ℕ) → test q �
           → Found f (q ∷ qs) (nearest_from given (nearer f (given q) q) qs)
       go false e on =
           let z : ltb never f.minute ≡ false = le-ltb never f.minute l in
-          pass_by f q qs (nearest_from given (nearer f (given q) q) qs) e (rw (e, z) (on f l))
+          let s = skip q qs e in
+          pass_on f q qs (nearest_from given (nearer f (given q) q) qs) s.0 (s.1 (least_of test at qs)) (rw (e, z) (on f l))
       go true e on = sooner (ltb (at q) f.minute) refl (ltb (least_of test at qs) (at q)) refl
         where
           sooner : (c : Bool) → ltb (at q) f.minute ≡ c → (d : Bool) → ltb (least_of test at qs) (at q) ≡ d → Found f (q ∷ qs) (nearest_from given (nearer f (given q) q) qs)
@@ -210,7 +211,7 @@ module _ (test : ℕ → Bool) (at : ℕ → ℕ) (soon : (q : ℕ) → test q �
                   let b = ltb-true (least_of test at qs) f.minute z in
                   let m : min (at q) (least_of test at qs) ≡ least_of test at qs = omega arith in
                   let n : eqb (at q) (least_of test at qs) ≡ false = ne_eqb (at q) (least_of test at qs) (omega arith) in
-                  rw (e, x, m, n) i
+                  pass_on f q qs (nearest_from given (nearer f (given q) q) qs) (rw e m) (rw (e, n)) (rw (e, x) i)
               late false z =
                   let i = on f l in
                   let a = ltb-false (at q) f.minute x in

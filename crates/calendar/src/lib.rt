@@ -2,6 +2,9 @@
 // 5545; it takes any plan, any board, any origin and any buffer and answers. The lines of an event come from the room
 // below, `moments`, and dates from `dates`. The inner functions take the number and the pond codes of the points, no plan, and assume room for
 // what they write; `write_by` is for callers who have read the plan and know that it is accepted.
+
+#![tactic(auto)]
+
 ghost use Rattle.std.specs.Prelude.{◌≡◌, ◌+◌, ◌≤◌, length};
 ghost use Rattle.plan.specs.Limits.{most_points};
 ghost use Rattle.buffers.specs.Inside.{Laid};

@@ -1,7 +1,6 @@
 // `desk day N`: a plan file, and that file, the mark and the events of projection N's run: what `sheet` and `offers` read. A refusal goes
 // to standard error, and nothing is written.
-use crate::say::say;
-use libc::{STDERR_FILENO, STDOUT_FILENO};
+use crate::say::{Out, put, say};
 use plan::{ACCEPTED, MOST_POINTS, Plan, RECORD_BYTES};
 use stream::within;
 
@@ -12,15 +11,15 @@ const ROOM: usize = RECORD_BYTES * MOST_POINTS as usize;
 const MARK: [u8; RECORD_BYTES] = [255; RECORD_BYTES];
 
 // The plan file, which is so many bytes at the front, then the mark and the day.
-pub(crate) fn write_day(plan: Plan, front: &[u8], length: u64, projection: u32) {
+pub(crate) fn write_day(rt: HostRuntime, plan: Plan, front: &[u8], length: u64, projection: u32) {
     let mut room = [0u8; ROOM];
     let day = worst::day_of(plan, projection, &mut room);
     if day.number != ACCEPTED {
-        return say(STDERR_FILENO, answers::day_refused(day.number));
+        return say(rt, Out::Error, answers::day_refused(day.number));
     }
     let n = within(length as usize, front);
-    io::write_all(STDOUT_FILENO, &front[..n]);
-    io::write_all(STDOUT_FILENO, &MARK);
+    put(rt, Out::Output, &front[..n]);
+    put(rt, Out::Output, &MARK);
     let m = within(RECORD_BYTES * (day.events as usize), &room);
-    io::write_all(STDOUT_FILENO, &room[..m]);
+    put(rt, Out::Output, &room[..m]);
 }

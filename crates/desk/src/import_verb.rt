@@ -2,17 +2,18 @@
 // its line, and nothing is written. The text is fed to the importer a piece at a time, so it may be of any length.
 use crate::input::piece_room;
 use crate::made::write_plan;
-use crate::say::say;
-use libc::{STDERR_FILENO, STDIN_FILENO};
+use crate::say::{Out, say};
+use handles::read_full;
 use office::{Feeding, Imported, begin, feed, finish};
 use plan::ACCEPTED;
+use std::io::Stdin;
 
 // What is known after all of the input.
-fn fed(room: &mut [u8]) -> Feeding {
+fn fed(input: Stdin, room: &mut [u8]) -> Feeding {
     let mut state = begin();
     let mut turns = u64::MAX;
     while turns > 0 {
-        let n = io::read_full(STDIN_FILENO, room);
+        let n = read_full(input, room);
         state = feed(state, &room[..n]);
         if n < room.len() {
             break;
@@ -22,16 +23,16 @@ fn fed(room: &mut [u8]) -> Feeding {
     state
 }
 
-fn imported() -> Imported {
+fn imported(input: Stdin) -> Imported {
     let mut room = piece_room();
-    finish(fed(&mut room))
+    finish(fed(input, &mut room))
 }
 
-pub(crate) fn run() {
-    let answer = imported();
+pub(crate) fn run(rt: HostRuntime) {
+    let answer = imported(rt.stdin());
     if answer.number != ACCEPTED {
         let line = answers::import_refused(answer.number, answer.line as u64);
-        return say(STDERR_FILENO, line);
+        return say(rt, Out::Error, line);
     }
-    write_plan(answer.plan)
+    write_plan(rt, answer.plan)
 }

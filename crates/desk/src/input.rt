@@ -1,16 +1,17 @@
 // Standard input as one file: its front is kept, and of the rest only how long it is.
 ghost use Rattle.std.specs.Prelude.{◌≡◌, length};
 
-use libc::STDIN_FILENO;
+use handles::read_full;
 use plan::{MOST_RECORDS, RECORD_BYTES};
+use std::io::Stdin;
 use std::num::wrapping_add_u64;
 
 // Passes over all that is left of the input, and answers how many bytes that was.
-fn pass_over(rest: &mut [u8]) -> u64 {
+fn pass_over(input: Stdin, rest: &mut [u8]) -> u64 {
     let mut total: u64 = 0;
     let mut turns = u64::MAX;
     while turns > 0 {
-        let n = io::read_full(STDIN_FILENO, rest);
+        let n = read_full(input, rest);
         total = wrapping_add_u64(total, n as u64);
         if n < rest.len() {
             break;
@@ -21,13 +22,13 @@ fn pass_over(rest: &mut [u8]) -> u64 {
 }
 
 // Fills the front with the input as far as it goes, and answers how long all of the input is.
-pub(crate) fn read_all(front: &mut [u8]) -> u64 {
-    let n = io::read_full(STDIN_FILENO, front);
+pub(crate) fn read_all(input: Stdin, front: &mut [u8]) -> u64 {
+    let n = read_full(input, front);
     if n < front.len() {
         return n as u64;
     }
     let mut room = piece_room();
-    wrapping_add_u64(n as u64, pass_over(&mut room))
+    wrapping_add_u64(n as u64, pass_over(input, &mut room))
 }
 
 // So many bytes are read at once where the input is not held.

@@ -2,8 +2,7 @@
 // written unless every line is good; else standard error has the first bad line, counted from 1, and what was expected there. A listing
 // is held whole, so one that is longer than any day is wrong usage.
 use crate::input::read_all;
-use crate::say::say;
-use libc::{STDERR_FILENO, STDOUT_FILENO};
+use crate::say::{Out, put, say};
 use listing::{A_LONGER_BUFFER, Packed, pack};
 use plan::ACCEPTED;
 use stream::within;
@@ -30,49 +29,49 @@ const TOO_LONG: [u8; 82] =
     *b"usage: a listing for pack has at most 65536 bytes and makes at most 4096 records.\n";
 
 // What was expected, in words; nothing for a number that is none.
-fn say_expected(number: u32) -> bool {
+fn say_expected(rt: HostRuntime, number: u32) {
     match number {
-        1 => io::write_all(STDERR_FILENO, &A_KIND),
-        2 => io::write_all(STDERR_FILENO, &SO_MANY_WORDS),
-        3 => io::write_all(STDERR_FILENO, &A_POINT),
-        4 => io::write_all(STDERR_FILENO, &A_NUMBER),
-        5 => io::write_all(STDERR_FILENO, &A_COUNT),
-        6 => io::write_all(STDERR_FILENO, &A_POINT_OR_NONE),
-        7 => io::write_all(STDERR_FILENO, &A_SET),
-        0 | 8..=4294967295 => false,
+        1 => put(rt, Out::Error, &A_KIND),
+        2 => put(rt, Out::Error, &SO_MANY_WORDS),
+        3 => put(rt, Out::Error, &A_POINT),
+        4 => put(rt, Out::Error, &A_NUMBER),
+        5 => put(rt, Out::Error, &A_COUNT),
+        6 => put(rt, Out::Error, &A_POINT_OR_NONE),
+        7 => put(rt, Out::Error, &A_SET),
+        0 | 8..=4294967295 => {}
     }
 }
 
 // What is said of a bad line, or of a listing that makes too many records.
-fn refused(answer: Packed) {
+fn refused(rt: HostRuntime, answer: Packed) {
     if A_LONGER_BUFFER <= answer.number {
-        io::write_all(STDERR_FILENO, &TOO_LONG);
+        put(rt, Out::Error, &TOO_LONG);
         return;
     }
-    say_expected(answer.number);
+    say_expected(rt, answer.number);
     let line = (answer.line % 4294967296) as u32;
-    say(STDERR_FILENO, answers::line_number(line))
+    say(rt, Out::Error, answers::line_number(line))
 }
 
 // What the first so many bytes say.
-fn packed(text: &[u8], length: usize) {
+fn packed(rt: HostRuntime, text: &[u8], length: usize) {
     let mut room = io::large_buffer();
     let n = within(length, text);
     let answer = pack(&text[..n], &mut room);
     if answer.number != ACCEPTED {
-        return refused(answer);
+        return refused(rt, answer);
     }
     let m = within(answer.length, &room);
-    io::write_all(STDOUT_FILENO, &room[..m]);
+    put(rt, Out::Output, &room[..m]);
 }
 
-pub(crate) fn run() {
+pub(crate) fn run(rt: HostRuntime) {
     let mut room = io::large_buffer();
     let text: &mut [u8] = &mut room;
-    let length = read_all(text);
+    let length = read_all(rt.stdin(), text);
     if TEXT_ROOM < length {
-        io::write_all(STDERR_FILENO, &TOO_LONG);
+        put(rt, Out::Error, &TOO_LONG);
         return;
     }
-    packed(text, length as usize)
+    packed(rt, text, length as usize)
 }

@@ -5,46 +5,46 @@ use crate::day_verb::write_day;
 use crate::input::{plan_room, read_all};
 use crate::lighter_verb::write_lighter;
 use crate::list_verb::say_records;
-use crate::say::say;
+use crate::say::{Out, say};
 use crate::{explain_verb, test_verb, worst_verb};
 use asks::Asked;
 use plan::{ACCEPTED, Plan};
 use stream::read_front;
 
 // What the plan test says.
-fn tested(ask: Asked, plan: Plan) {
+fn tested(rt: HostRuntime, ask: Asked, plan: Plan) {
     if let Asked::Test = ask {
-        return test_verb::tell(plan);
+        return test_verb::tell(rt, plan);
     }
-    explain_verb::tell(plan)
+    explain_verb::tell(rt, plan)
 }
 
 // What the runs of all projections say, or the day of one of them.
-fn played(ask: Asked, plan: Plan, front: &[u8], length: u64) {
+fn played(rt: HostRuntime, ask: Asked, plan: Plan, front: &[u8], length: u64) {
     if let Asked::Day(projection) = ask {
-        return write_day(plan, front, length, projection);
+        return write_day(rt, plan, front, length, projection);
     }
-    worst_verb::tell(plan)
+    worst_verb::tell(rt, plan)
 }
 
 // A plan that is made of it.
-fn remade(ask: Asked, plan: Plan) {
+fn remade(rt: HostRuntime, ask: Asked, plan: Plan) {
     if let Asked::Close = ask {
-        return write_closed(plan);
+        return write_closed(rt, plan);
     }
-    write_lighter(plan)
+    write_lighter(rt, plan)
 }
 
 // What is asked of a plan, whose file is so many bytes at the front. The other verbs take no plan file.
-fn told(ask: Asked, plan: Plan, front: &[u8], length: u64) {
+fn told(rt: HostRuntime, ask: Asked, plan: Plan, front: &[u8], length: u64) {
     match ask {
-        Asked::Test => tested(ask, plan),
-        Asked::Explain => tested(ask, plan),
-        Asked::Worst => played(ask, plan, front, length),
-        Asked::Day(_) => played(ask, plan, front, length),
-        Asked::Close => remade(ask, plan),
-        Asked::Lighter => remade(ask, plan),
-        Asked::Listing => say_records(plan),
+        Asked::Test => tested(rt, ask, plan),
+        Asked::Explain => tested(rt, ask, plan),
+        Asked::Worst => played(rt, ask, plan, front, length),
+        Asked::Day(_) => played(rt, ask, plan, front, length),
+        Asked::Close => remade(rt, ask, plan),
+        Asked::Lighter => remade(rt, ask, plan),
+        Asked::Listing => say_records(rt, plan),
         Asked::Import => {}
         Asked::Pack => {}
         Asked::Calendar => {}
@@ -52,13 +52,13 @@ fn told(ask: Asked, plan: Plan, front: &[u8], length: u64) {
     }
 }
 
-pub(crate) fn run(ask: Asked, refusals: i32) {
+pub(crate) fn run(rt: HostRuntime, ask: Asked, refusals: Out) {
     let mut room = plan_room();
     let front: &mut [u8] = &mut room;
-    let length = read_all(front);
+    let length = read_all(rt.stdin(), front);
     let reading = read_front(length, front);
     if reading.number != ACCEPTED {
-        return say(refusals, text::plan_line(reading.number, reading.place));
+        return say(rt, refusals, text::plan_line(reading.number, reading.place));
     }
-    told(ask, reading.plan, front, length)
+    told(rt, ask, reading.plan, front, length)
 }

@@ -4,7 +4,8 @@ ghost use Rattle.std.specs.Prelude.{◌≡◌, ◌*◌, ◌≤◌, length};
 ghost use Rattle.plan.specs.Limits.{record_bytes};
 
 use board::SAID;
-use libc::STDIN_FILENO;
+use handles::read_full;
+use std::io::Stdin;
 use stream::{PLAYING, Sheet};
 
 const RECORD: usize = plan::RECORD_BYTES;
@@ -56,14 +57,14 @@ fn taken(sheet: Sheet, chunk: &[u8], n: usize) -> Sheet
 }
 
 // The sheet after all of the input.
-pub(crate) fn sheet_in() -> Sheet {
+pub(crate) fn sheet_in(input: Stdin) -> Sheet {
     let mut room = [0u8; RECORD * MANY];
     let chunk: &mut [u8] = &mut room;
     let mut sheet = Sheet::new();
     let mut n: usize = 0;
     let mut turns = u64::MAX;
     while turns > 0 {
-        n = io::read_full(STDIN_FILENO, chunk);
+        n = read_full(input, chunk);
         sheet = taken(sheet, chunk, n / RECORD);
         if n < chunk.len() {
             break;

@@ -1,8 +1,7 @@
 // `desk test`: the plan test's answer to a plan.
-use crate::say::say;
-use libc::STDOUT_FILENO;
+use crate::say::{Out, say};
 use plan::Plan;
 
-pub(crate) fn tell(plan: Plan) {
-    say(STDOUT_FILENO, text::test_line(vee::test(plan)))
+pub(crate) fn tell(rt: HostRuntime, plan: Plan) {
+    say(rt, Out::Output, text::test_line(vee::test(plan)))
 }

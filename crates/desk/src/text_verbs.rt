@@ -7,10 +7,10 @@ pub(crate) const PACK: u8 = 1;
 
 pub(crate) const CALENDAR: u8 = 2;
 
-pub(crate) fn run(verb: u8) {
+pub(crate) fn run(rt: HostRuntime, verb: u8) {
     match verb {
-        0 => import_verb::run(),
-        1 => pack_verb::run(),
-        2..=255 => calendar_verb::run(),
+        0 => import_verb::run(rt),
+        1 => pack_verb::run(rt),
+        2..=255 => calendar_verb::run(rt),
     }
 }

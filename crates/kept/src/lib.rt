@@ -3,6 +3,9 @@
 // points, and an event reads only those that name its points; what one row says and changes is told by `kept_rows`. An inner room: it
 // serves `engine` and `steps`. What the rooms hold may be any numbers: points are taken modulo 32, walks end, and sums stop at the
 // largest number.
+
+#![tactic(auto)]
+
 mod changes;
 
 pub use changes::do_event;

@@ -2,6 +2,9 @@
 // shut, its window so far and its running wait, and the counts and windows once one of its points is done. An inner room: it serves
 // `kept`, which goes over the rows and hands on what others need of it. What the room holds may be any numbers: points are taken modulo
 // 32, and sums stop at the largest number.
+
+#![tactic(auto)]
+
 ghost use Rattle.std.specs.Prelude.{◌≡◌, ◌+◌, ◌-◌, ◌%◌, min};
 ghost use Rattle.plan.specs.Limits.{most_points};
 ghost use Rattle.plan.specs.APlan.{one};

@@ -1,6 +1,9 @@
 // The windows from what is kept: which points are open, each one's Low, and H; and the first record that holds a shut point, found among
 // the records that name that point, for all points or for one. An inner room: it serves `engine` and `steps`. What the rooms hold may be any numbers;
 // proofs/Answering says that of a plan's rooms the answers are the plain engine's.
+
+#![tactic(auto)]
+
 ghost use Rattle.std.specs.Prelude.{◌≡◌, ◌%◌, ◌<◌, drop, replicate};
 ghost use Rattle.points.specs.Sets.{members_of};
 ghost use Rattle.plan.specs.Limits.{most_points};

@@ -1,16 +1,21 @@
 // Runs of the verdict over a lent list, on the haul of document 01, which is read from standard input: 0 done at 0, 1 at
 // 12, 2 and 3 at 47, in one event. A line for each answer: R number place, K, or B place.
+
+#![tactic(auto)]
+
 use board::Board;
 use bounds::Bound;
+use handles::{read_full, write_all};
 use lent::{Judged, LIST_ROOM, judge_list};
 use plan::Plan;
 use plan_file::read;
+use std::io::Stdout;
 
 fn digit(x: usize) -> u8 {
     b'0' + (x % 10) as u8
 }
 
-fn line(kind: u8, number: u32, place: usize) {
+fn line(out: Stdout, kind: u8, number: u32, place: usize) {
     let n = number as usize;
     let text = [
         kind,
@@ -24,14 +29,14 @@ fn line(kind: u8, number: u32, place: usize) {
         digit(place),
         b'\n',
     ];
-    io::write_all(1, &text);
+    write_all(out, &text);
 }
 
-fn show(judged: Judged) {
+fn show(out: Stdout, judged: Judged) {
     match judged {
-        Judged::Refused(number, place) => line(b'R', number, place),
-        Judged::Kept => line(b'K', 0, 0),
-        Judged::Broken(place) => line(b'B', 0, place),
+        Judged::Refused(number, place) => line(out, b'R', number, place),
+        Judged::Kept => line(out, b'K', 0, 0),
+        Judged::Broken(place) => line(out, b'B', 0, place),
     }
 }
 
@@ -63,73 +68,82 @@ fn bound(from: u8, to: u8, bound: i32) -> Bound {
 }
 
 // The first `count` of a list that holds the same bound in each place but one.
-fn run(plan: Plan, board: Board, each: Bound, place: usize, other: Bound, count: usize) {
+fn run(
+    out: Stdout,
+    plan: Plan,
+    board: Board,
+    each: Bound,
+    place: usize,
+    other: Bound,
+    count: usize,
+) {
     let mut list = [each; LIST_ROOM];
     if place < LIST_ROOM {
         list[place] = other;
     }
-    show(judge_list(plan, board, list, count));
+    show(out, judge_list(plan, board, list, count));
 }
 
 // One bound on the finished board.
-fn one(plan: Plan, from: u8, to: u8, most: i32) {
+fn one(out: Stdout, plan: Plan, from: u8, to: u8, most: i32) {
     let b = bound(from, to, most);
-    run(plan, board(15, 47, 3), b, 0, b, 1);
+    run(out, plan, board(15, 47, 3), b, 0, b, 1);
 }
 
 // Point 1 comes 12 after point 0: kept at 12, broken at 11; the lowest and the highest bound.
-fn numbers(plan: Plan) {
-    one(plan, 0, 1, 12);
-    one(plan, 0, 1, 11);
-    one(plan, 1, 0, -12);
-    one(plan, 1, 0, -13);
-    one(plan, 0, 1, 2147483647);
-    one(plan, 3, 0, -2147483648);
+fn numbers(out: Stdout, plan: Plan) {
+    one(out, plan, 0, 1, 12);
+    one(out, plan, 0, 1, 11);
+    one(out, plan, 1, 0, -12);
+    one(out, plan, 1, 0, -13);
+    one(out, plan, 0, 1, 2147483647);
+    one(out, plan, 3, 0, -2147483648);
 }
 
 // Point 3 is the plan's last.
-fn points(plan: Plan) {
-    one(plan, 3, 3, 0);
-    one(plan, 4, 3, 0);
-    one(plan, 3, 4, 0);
-    one(plan, 255, 0, 0);
-    one(plan, 0, 255, 0);
+fn points(out: Stdout, plan: Plan) {
+    one(out, plan, 3, 3, 0);
+    one(out, plan, 4, 3, 0);
+    one(out, plan, 3, 4, 0);
+    one(out, plan, 255, 0, 0);
+    one(out, plan, 0, 255, 0);
 }
 
 // None of the list counts; thousands do; the last is broken; the last is broken and not counted; more than there are.
-fn lengths(plan: Plan) {
+fn lengths(out: Stdout, plan: Plan) {
     let kept = bound(0, 1, 12);
     let broken = bound(0, 1, 11);
     let done = board(15, 47, 3);
-    run(plan, done, broken, 0, broken, 0);
-    run(plan, done, kept, 0, kept, 4096);
-    run(plan, done, kept, 4095, broken, 4096);
-    run(plan, done, kept, 4095, broken, 4095);
-    run(plan, done, kept, 4095, broken, 5000);
+    run(out, plan, done, broken, 0, broken, 0);
+    run(out, plan, done, kept, 0, kept, 4096);
+    run(out, plan, done, kept, 4095, broken, 4096);
+    run(out, plan, done, kept, 4095, broken, 4095);
+    run(out, plan, done, kept, 4095, broken, 5000);
 }
 
 // A point that is not in the plan comes before every broken bound, and 31, 20 and the plan's own number before it.
-fn order(plan: Plan, empty: Plan) {
+fn order(out: Stdout, plan: Plan, empty: Plan) {
     let broken = bound(0, 1, 11);
     let unnamed = bound(0, 4, 0);
     let done = board(15, 47, 3);
     let unsound = board(7, 47, 0);
-    run(plan, done, broken, 4000, unnamed, 4000);
-    run(plan, done, broken, 4000, unnamed, 4096);
-    run(plan, board(7, 0, 0), broken, 0, unnamed, 4096);
-    run(plan, unsound, broken, 0, unnamed, 4096);
-    run(empty, unsound, broken, 0, unnamed, 4096);
+    run(out, plan, done, broken, 4000, unnamed, 4000);
+    run(out, plan, done, broken, 4000, unnamed, 4096);
+    run(out, plan, board(7, 0, 0), broken, 0, unnamed, 4096);
+    run(out, plan, unsound, broken, 0, unnamed, 4096);
+    run(out, empty, unsound, broken, 0, unnamed, 4096);
 }
 
-fn main() {
+fn main(rt: HostRuntime) {
+    let out = rt.stdout();
     let mut bytes = [0u8; 144];
-    let n = io::read_full(0, &mut bytes);
+    let n = read_full(rt.stdin(), &mut bytes);
     let haul = read(&bytes[..n]);
     let none = read(&bytes[..0]);
     let plan = haul.plan;
     let empty = none.plan;
-    numbers(plan);
-    points(plan);
-    lengths(plan);
-    order(plan, empty);
+    numbers(out, plan);
+    points(out, plan);
+    lengths(out, plan);
+    order(out, plan, empty);
 }

@@ -1,5 +1,8 @@
 // Links as numbers in a room that the caller lends, and links from one, whatever it holds, for programs in other languages, to which no struct
 // crosses. An inner room: it serves `hulls`, which hands it on. Nothing is asked of a caller.
+
+#![tactic(auto)]
+
 ghost use Rattle.std.specs.Prelude.{◌≡◌};
 ghost use Rattle.link_numbers.specs.Rooms.{end_in, links_in, links_room};
 

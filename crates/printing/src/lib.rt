@@ -7,6 +7,7 @@ use chunks::{carry, read_on, sent};
 use engine::{KEPT, LIST};
 use plan::RECORD_BYTES;
 use rows::SHEET;
+use std::io::{Stdin, Stdout};
 use turns::turn;
 
 // The input that is read at once.
@@ -20,7 +21,7 @@ const LINES: usize = 8192;
 
 // Reads standard input to its end and prints: in full, the plan test and every reply; else one line for each event. It ends early where
 // the output is closed.
-pub fn print(full: bool) {
+pub fn print(input: Stdin, output: Stdout, full: bool) {
     let mut chunk = [0u8; CHUNK];
     let mut front = [0u8; FRONT];
     let mut lines = [0u8; LINES];
@@ -33,7 +34,7 @@ pub fn print(full: bool) {
     let mut at: usize = 0;
     let mut turns = u64::MAX;
     while turns > 0 {
-        let n = read_on(&mut chunk, at);
+        let n = read_on(input, &mut chunk, at);
         let over = (n == at) & (n < RECORD_BYTES);
         stage = turn(
             full,
@@ -48,7 +49,7 @@ pub fn print(full: bool) {
             &chunk[..n],
             &mut lines,
         );
-        if !sent(&lines, stage.end) | over {
+        if !sent(output, &lines, stage.end) | over {
             break;
         }
         at = carry(&mut chunk, stage.used, n);

@@ -2,7 +2,8 @@
 // numbers.
 ghost use Rattle.std.specs.Prelude.{◌≡◌, ◌≤◌};
 
-use libc::STDIN_FILENO;
+use handles::read_full;
+use std::io::Stdin;
 
 // No further request.
 pub const OVER: u8 = 0;
@@ -42,9 +43,9 @@ fn block_of(bytes: &[u8; 16], whole: bool) -> Block {
 }
 
 // The next request; `OVER` once the input has ended.
-pub fn next_block() -> Block {
+pub fn next_block(input: Stdin) -> Block {
     let mut bytes = [0u8; 16];
-    let n = io::read_full(STDIN_FILENO, &mut bytes);
+    let n = read_full(input, &mut bytes);
     block_of(&bytes, n == 16)
 }
 

@@ -7,6 +7,7 @@ use crate::says::{mixed, say, say_board, say_places, sum_of, sum_of_plan, within
 use board::{Board, Taken};
 use plan::Plan;
 use replies::Outcome;
+use std::io::Stdout;
 use vee::Answer;
 use verdict::Verdict;
 
@@ -42,18 +43,18 @@ fn replies(plan: Plan, board: Board, times: u32) -> u32 {
     sum
 }
 
-fn say_reply(plan: Plan, board: Board, sum: u32) {
+fn say_reply(out: Stdout, plan: Plan, board: Board, sum: u32) {
     let reply = replies::reply_of(plan, board);
     let outcome = reply.outcome;
     let places = reply.places;
     match outcome {
-        Outcome::Refused(number, place) => say(REPLY, number, place, sum),
-        Outcome::Finished => say(REPLY, 101, reply.latest, sum),
-        Outcome::Stuck => say(REPLY, 102, reply.latest, sum),
-        Outcome::Waiting => say(REPLY, 103, reply.latest, sum),
-        Outcome::Offers => say(REPLY, 104, reply.latest, sum),
+        Outcome::Refused(number, place) => say(out, REPLY, number, place, sum),
+        Outcome::Finished => say(out, REPLY, 101, reply.latest, sum),
+        Outcome::Stuck => say(out, REPLY, 102, reply.latest, sum),
+        Outcome::Waiting => say(out, REPLY, 103, reply.latest, sum),
+        Outcome::Offers => say(out, REPLY, 104, reply.latest, sum),
     }
-    say_places(places);
+    say_places(out, places);
 }
 
 fn takes(plan: Plan, board: Board, event: &[u8], times: u32) -> u32 {
@@ -66,14 +67,14 @@ fn takes(plan: Plan, board: Board, event: &[u8], times: u32) -> u32 {
     sum
 }
 
-fn take(desk: Desk, event: &[u8]) -> Desk {
+fn take(out: Stdout, desk: Desk, event: &[u8]) -> Desk {
     let plan = desk.plan;
     let before = desk.board;
     let sum = takes(plan, before, event, desk.times);
     let taken = before.take(plan, event);
     let after = taken.board;
-    say(TAKE, taken.number, taken.place, sum);
-    say_board(TAKE, after);
+    say(out, TAKE, taken.number, taken.place, sum);
+    say_board(out, TAKE, after);
     let mut next = desk;
     next.board = after;
     next
@@ -98,32 +99,32 @@ fn verdicts(plan: Plan, board: Board, times: u32) -> u32 {
     sum
 }
 
-fn say_verdict(plan: Plan, board: Board, sum: u32) {
+fn say_verdict(out: Stdout, plan: Plan, board: Board, sum: u32) {
     match verdict::verdict_of(plan, board) {
-        Verdict::Refused(number, place) => say(VERDICT, number, place, sum),
-        Verdict::Kept => say(VERDICT, 0, 0, sum),
-        Verdict::Broken(place) => say(VERDICT, 100, place, sum),
+        Verdict::Refused(number, place) => say(out, VERDICT, number, place, sum),
+        Verdict::Kept => say(out, VERDICT, 0, 0, sum),
+        Verdict::Broken(place) => say(out, VERDICT, 100, place, sum),
     }
 }
 
-fn say_check(plan: Plan) {
+fn say_check(out: Stdout, plan: Plan) {
     let found = plan::check(plan);
-    say(CHECK, found.number, found.place, 0);
+    say(out, CHECK, found.number, found.place, 0);
 }
 
-fn say_write(plan: Plan, out: &mut [u8]) {
-    let found = plan_file::write(plan, out);
-    say(WRITE, found.number, found.place, sum_of(out));
+fn say_write(out: Stdout, plan: Plan, room: &mut [u8]) {
+    let found = plan_file::write(plan, room);
+    say(out, WRITE, found.number, found.place, sum_of(room));
 }
 
-fn say_test(plan: Plan) {
+fn say_test(out: Stdout, plan: Plan) {
     match vee::test(plan) {
-        Answer::Refused(number, place) => say(TEST, number, place, 0),
-        Answer::Yes(tried) => say(TEST, 101, tried, 0),
-        Answer::Cycle(at) => say(TEST, 102, at, 0),
+        Answer::Refused(number, place) => say(out, TEST, number, place, 0),
+        Answer::Yes(tried) => say(out, TEST, 101, tried, 0),
+        Answer::Cycle(at) => say(out, TEST, 102, at, 0),
         Answer::Pair(at, x, y) => {
-            say(TEST, 103, at, 0);
-            say(TEST, x, y, 0)
+            say(out, TEST, 103, at, 0);
+            say(out, TEST, x, y, 0)
         }
     }
 }
@@ -140,36 +141,36 @@ fn reads(bytes: &mut [u8], times: u32) -> u32 {
     sum
 }
 
-fn say_read(bytes: &mut [u8], times: u32) {
+fn say_read(out: Stdout, bytes: &mut [u8], times: u32) {
     let sum = reads(bytes, times);
     let reading = plan_file::read(bytes);
     let plan = reading.plan;
-    say(READ, reading.number, reading.place, sum);
-    say(READ, plan.count, sum_of_plan(plan), 0);
+    say(out, READ, reading.number, reading.place, sum);
+    say(out, READ, plan.count, sum_of_plan(plan), 0);
 }
 
 // A call by its number; any other number is answered with itself.
-pub fn called(desk: Desk, block: Block, buffer: &mut [u8]) -> Desk {
+pub fn called(out: Stdout, desk: Desk, block: Block, buffer: &mut [u8]) -> Desk {
     let asked = block.asked;
     let plan = desk.plan;
     let board = desk.board;
     let times = desk.times;
     let n = within(desk.length, buffer);
     match asked {
-        16 => say_reply(plan, board, replies(plan, board, times)),
+        16 => say_reply(out, plan, board, replies(plan, board, times)),
         17 => {
-            return take(desk, &buffer[..n]);
+            return take(out, desk, &buffer[..n]);
         }
-        18 => say_verdict(plan, board, verdicts(plan, board, times)),
-        19 => say_check(plan),
-        20 => say_write(plan, &mut buffer[..n]),
-        21 => say_test(plan),
-        22 => say_read(&mut buffer[..n], times),
-        23 => many::judge(plan, board, &buffer[..n]),
+        18 => say_verdict(out, plan, board, verdicts(plan, board, times)),
+        19 => say_check(out, plan),
+        20 => say_write(out, plan, &mut buffer[..n]),
+        21 => say_test(out, plan),
+        22 => say_read(out, &mut buffer[..n], times),
+        23 => many::judge(out, plan, board, &buffer[..n]),
         24 => {
-            return many::stream(desk, &buffer[..n], block.first, block.second);
+            return many::stream(out, desk, &buffer[..n], block.first, block.second);
         }
-        0..=15 | 25..=255 => say(asked as u32, 0, 0, 0),
+        0..=15 | 25..=255 => say(out, asked as u32, 0, 0, 0),
     }
     desk
 }

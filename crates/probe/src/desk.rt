@@ -4,6 +4,7 @@ use crate::block::{Block, signed};
 use crate::calls;
 use board::{Board, ROOM};
 use plan::{MOST_RECORDS, Plan, Record};
+use std::io::Stdout;
 use std::num::wrapping_add_u32;
 
 #[derive(Clone, Copy)]
@@ -129,7 +130,7 @@ impl Desk {
     }
 
     // A request that puts something on the desk, or else a call.
-    pub fn next(self, block: Block, buffer: &mut [u8]) -> Desk {
+    pub fn next(self, out: Stdout, block: Block, buffer: &mut [u8]) -> Desk {
         let asked = block.asked;
         match asked {
             1 => self.counted(block),
@@ -140,7 +141,7 @@ impl Desk {
             6 => self.put(block, buffer),
             7 => self.repeated(block),
             8 => self.numbered(block),
-            0 | 9..=255 => calls::called(self, block, buffer),
+            0 | 9..=255 => calls::called(out, self, block, buffer),
         }
     }
 }

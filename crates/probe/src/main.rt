@@ -1,6 +1,9 @@
 // A program for tests and the benchmark alone: it takes requests for calls of the libraries that no stream of the printing
 // programs reaches (plans, boards and events of any content), and answers each by lines of four numbers. compare/PROBE.md
 // says what the requests are.
+
+#![tactic(auto)]
+
 mod block;
 mod calls;
 mod desk;
@@ -10,17 +13,17 @@ mod says;
 use block::{OVER, next_block};
 use desk::Desk;
 
-fn main() {
+fn main(rt: HostRuntime) {
     let mut room = io::large_buffer();
     let buffer: &mut [u8] = &mut room;
     let mut desk = Desk::new();
     let mut turns = u64::MAX;
     while turns > 0 {
-        let block = next_block();
+        let block = next_block(rt.stdin());
         if block.asked == OVER {
             break;
         }
-        desk = desk.next(block, buffer);
+        desk = desk.next(rt.stdout(), block, buffer);
         turns -= 1;
     }
 }

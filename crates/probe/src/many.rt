@@ -8,6 +8,7 @@ use board::Board;
 use bounds::Bound;
 use lent::{Judged, LIST_ROOM};
 use plan::Plan;
+use std::io::Stdout;
 
 const JUDGE: u32 = 23;
 
@@ -52,19 +53,19 @@ fn bounds_in(bytes: &[u8]) -> [Bound; LIST_ROOM] {
     list
 }
 
-fn say_judged(judged: Judged) {
+fn say_judged(out: Stdout, judged: Judged) {
     match judged {
-        Judged::Refused(number, place) => say(JUDGE, number, (place % 4294967296) as u32, 0),
-        Judged::Kept => say(JUDGE, 0, 0, 0),
-        Judged::Broken(place) => say(JUDGE, 100, (place % 4294967296) as u32, 0),
+        Judged::Refused(number, place) => say(out, JUDGE, number, (place % 4294967296) as u32, 0),
+        Judged::Kept => say(out, JUDGE, 0, 0, 0),
+        Judged::Broken(place) => say(out, JUDGE, 100, (place % 4294967296) as u32, 0),
     }
 }
 
 // The verdict over the whole bounds among some bytes, as many as a list by value has room for.
-pub fn judge(plan: Plan, board: Board, bytes: &[u8]) {
+pub fn judge(out: Stdout, plan: Plan, board: Board, bytes: &[u8]) {
     let list = bounds_in(bytes);
     let count = bytes.len() / BOUND_BYTES;
-    say_judged(lent::judge_list(plan, board, list, count));
+    say_judged(out, lent::judge_list(plan, board, list, count));
 }
 
 // So many numbers of a room, or all that it has.
@@ -88,22 +89,22 @@ fn sum_of_room(room: &[u32]) -> u32 {
 }
 
 // Takes the events in some bytes, with a room lent for what is said of each. The sum is over the whole room.
-fn take_stream(desk: Desk, events: &[u8], room: &mut [u32]) -> Desk {
+fn take_stream(out: Stdout, desk: Desk, events: &[u8], room: &mut [u32]) -> Desk {
     let plan = desk.plan;
     let before = desk.board;
     let taken = before.take_all(plan, events, room);
     let after = taken.board;
-    say(STREAM, taken.number, taken.place, sum_of_room(room));
-    say_board(STREAM, after);
+    say(out, STREAM, taken.number, taken.place, sum_of_room(room));
+    say_board(out, STREAM, after);
     let mut next = desk;
     next.board = after;
     next
 }
 
 // A room of so many numbers, each of them x before.
-pub fn stream(desk: Desk, events: &[u8], numbers: u32, x: u32) -> Desk {
+pub fn stream(out: Stdout, desk: Desk, events: &[u8], numbers: u32, x: u32) -> Desk {
     let mut all = [x; STREAM_ROOM];
     let room: &mut [u32] = &mut all;
     let n = numbers_in(numbers, room);
-    take_stream(desk, events, &mut room[..n])
+    take_stream(out, desk, events, &mut room[..n])
 }

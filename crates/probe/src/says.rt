@@ -3,9 +3,10 @@ ghost use Rattle.io.specs.Counts.{IsPrefixLen};
 
 use crate::block::wide;
 use board::{Board, ROOM};
-use libc::STDOUT_FILENO;
+use handles::write_all;
 use plan::{MOST_RECORDS, Plan, Record, split};
 use replies::{Place, State};
+use std::io::Stdout;
 
 // So many bytes of a buffer, or all that it has.
 pub fn within(n: usize, bytes: &[u8]) -> usize
@@ -15,11 +16,11 @@ pub fn within(n: usize, bytes: &[u8]) -> usize
 }
 
 // A line of four numbers.
-pub fn say(a: u32, b: u32, c: u32, d: u32) {
+pub fn say(out: Stdout, a: u32, b: u32, c: u32, d: u32) {
     let line = text::numbers_line(a as u64, b, c, d);
     let bytes = line.bytes;
     let n = within(line.len, &bytes);
-    io::write_all(STDOUT_FILENO, &bytes[..n]);
+    write_all(out, &bytes[..n]);
 }
 
 const PRIME: u32 = 16777213;
@@ -58,29 +59,30 @@ pub fn sum_of_plan(plan: Plan) -> u32 {
 }
 
 // A point's place in a reply: its number, and what it is.
-fn say_place(p: u32, state: State) {
+fn say_place(out: Stdout, p: u32, state: State) {
     match state {
-        State::Done(minute) => say(p, 1, minute, 0),
-        State::Watched => say(p, 2, 0, 0),
-        State::Shut(n) => say(p, 3, n, 0),
-        State::Held => say(p, 4, 0, 0),
-        State::Offered(low) => say(p, 5, low, 0),
+        State::Done(minute) => say(out, p, 1, minute, 0),
+        State::Watched => say(out, p, 2, 0, 0),
+        State::Shut(n) => say(out, p, 3, n, 0),
+        State::Held => say(out, p, 4, 0, 0),
+        State::Offered(low) => say(out, p, 5, low, 0),
     }
 }
 
 // All places of a reply, those past the plan's last point too.
-pub fn say_places(places: [Place; ROOM]) {
+pub fn say_places(out: Stdout, places: [Place; ROOM]) {
     for i in 0..ROOM {
         let place = places[i];
         let state = place.state;
-        say_place(i as u32, state);
+        say_place(out, i as u32, state);
     }
 }
 
 // All minutes of a board, or all event numbers, four to a line.
-fn say_minutes(minutes: [u32; ROOM]) {
+fn say_minutes(out: Stdout, minutes: [u32; ROOM]) {
     for k in 0..ROOM / 4 {
         say(
+            out,
             minutes[4 * k],
             minutes[4 * k + 1],
             minutes[4 * k + 2],
@@ -90,10 +92,10 @@ fn say_minutes(minutes: [u32; ROOM]) {
 }
 
 // A board: its clock and its done set, its minutes, and its event numbers.
-pub fn say_board(asked: u32, board: Board) {
-    say(asked, board.clock, board.done, 0);
+pub fn say_board(out: Stdout, asked: u32, board: Board) {
+    say(out, asked, board.clock, board.done, 0);
     let minutes = board.minutes;
-    say_minutes(minutes);
+    say_minutes(out, minutes);
     let calls = board.calls;
-    say_minutes(calls);
+    say_minutes(out, calls);
 }

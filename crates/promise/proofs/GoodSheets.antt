@@ -1,7 +1,7 @@
 -- Document 02, §9: for a plan that is accepted and passes, the sheets that the engine lets through are exactly the good ones.
 -- The events of a good sheet are each taken and give exactly its minutes; and every board that accepted events finish shows
 -- a good sheet. Assumes nothing of boards or events.
-use mathlib.Core.Path.{◌≡◌, refl, sym, ◌∙◌}
+use mathlib.Core.Path.{subst, ◌≡◌, refl, sym, ◌∙◌}
 use mathlib.Core.Logic.{inl, inr}
 use mathlib.Core.Bool.{Bool, true, false, not, ◌&&◌, ◌||◌, and-false, or-false}
 use mathlib.Core.List.{List, [], ◌∷◌, ◌++◌, map, append_assoc}
@@ -139,7 +139,7 @@ module _ (p : Plan) (ok : (check_of p).number ≡ 0) (passes : PassesPlan p) (ω
         goes_next b e (map (alone t) qs ++ es) (accepted at e refl can)
         (by_foreman qs (rising_rest q qs r) (λ k h. f k (has_rest k q qs h)) (take_of p b (event_bytes e)).board
         (after at e refl can qs
-        (λ k n. let i : k ≡ q = eqb-true k q (only k q real n) in rw i (has_head q qs))
+        (λ k n. let i : k ≡ q = eqb-true k q (only k q real n) in subst (λ (x : ℕ). has x (q ∷ qs) ≡ true) (sym i) (has_head q qs))
         (λ k h n. elim (split k q qs h) [ inl i ↦ clash (sym (is_named k q real i) ∙ n) | inr i ↦ i ])
         (λ k h. (has_rest k q qs h, others k q (rising_first q qs r k h)))))
       where

@@ -1,8 +1,9 @@
 // Numbers as the bytes that are written, little-endian.
 use engine::{KEPT, LIST};
+use handles::write_all;
 use hulls::{LINKS, REPLY};
-use libc::STDOUT_FILENO;
 use rows::SHEET;
+use std::io::Stdout;
 
 // One byte of a number: the lowest, or those above it.
 fn byte_of(x: u32, k: u32) -> u8 {
@@ -25,7 +26,7 @@ fn high(x: u64) -> u32 {
 }
 
 // An answer of 64 bits.
-pub fn say_answer(answer: u64) {
+pub fn say_answer(out: Stdout, answer: u64) {
     let x = low(answer);
     let y = high(answer);
     let bytes = [
@@ -38,7 +39,7 @@ pub fn say_answer(answer: u64) {
         byte_of(y, 2),
         byte_of(y, 3),
     ];
-    io::write_all(STDOUT_FILENO, &bytes);
+    write_all(out, &bytes);
 }
 
 // How many bytes each room is; a board is as long as a reply.
@@ -97,27 +98,27 @@ fn rows_bytes(room: &[u32; SHEET]) -> [u8; ROWS_BYTES] {
     bytes
 }
 
-pub fn say_links(room: &[u32; LINKS]) {
+pub fn say_links(out: Stdout, room: &[u32; LINKS]) {
     let bytes = links_bytes(room);
-    io::write_all(STDOUT_FILENO, &bytes);
+    write_all(out, &bytes);
 }
 
-pub fn say_kept(room: &[u32; KEPT]) {
+pub fn say_kept(out: Stdout, room: &[u32; KEPT]) {
     let bytes = kept_bytes(room);
-    io::write_all(STDOUT_FILENO, &bytes);
+    write_all(out, &bytes);
 }
 
-pub fn say_list(room: &[u32; REPLY]) {
+pub fn say_list(out: Stdout, room: &[u32; REPLY]) {
     let bytes = list_bytes(room);
-    io::write_all(STDOUT_FILENO, &bytes);
+    write_all(out, &bytes);
 }
 
-pub fn say_halves(room: &[u16; LIST]) {
+pub fn say_halves(out: Stdout, room: &[u16; LIST]) {
     let bytes = halves_bytes(room);
-    io::write_all(STDOUT_FILENO, &bytes);
+    write_all(out, &bytes);
 }
 
-pub fn say_rows(room: &[u32; SHEET]) {
+pub fn say_rows(out: Stdout, room: &[u32; SHEET]) {
     let bytes = rows_bytes(room);
-    io::write_all(STDOUT_FILENO, &bytes);
+    write_all(out, &bytes);
 }

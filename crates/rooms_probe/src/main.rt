@@ -1,6 +1,9 @@
 // A program for tests alone: it takes rooms of any content for the engine that keeps counts, and events of any bytes, and writes the
 // answers and the changed room, every number of it. compare/ROOMS.md says what is read and written. It calls the functions that are
 // exported for C and Rust, so that what crosses there is tried too.
+
+#![tactic(auto)]
+
 mod bytes_of;
 mod rooms_of;
 
@@ -8,11 +11,12 @@ ghost use Rattle.io.specs.Counts.{IsPrefixLen};
 
 use bytes_of::{say_answer, say_halves, say_kept, say_links, say_list, say_rows};
 use engine::{KEPT, LIST};
+use handles::read_full;
 use hulls::{BOARD, LINKS, REPLY};
-use libc::STDIN_FILENO;
 use ponds::{ponds_begin, ponds_board, ponds_reply, ponds_take};
 use rooms_of::{kept_of, links_of, list_of, rows_of, wide};
 use rows::SHEET;
+use std::io::Stdin;
 
 // Where each room stands among the bytes of a case.
 const KEPT_AT: u32 = 392;
@@ -32,9 +36,9 @@ struct Size {
     past: bool,
 }
 
-fn next_size() -> Size {
+fn next_size(input: Stdin) -> Size {
     let mut two = [0u8; 2];
-    let n = io::read_full(STDIN_FILENO, &mut two);
+    let n = read_full(input, &mut two);
     Size {
         n: wide(two[0]) as usize + 256 * (wide(two[1]) as usize),
         past: n < 2,
@@ -49,17 +53,24 @@ fn within(n: usize, bytes: &[u8]) -> usize
 }
 
 // The reply and the board that the rooms give.
-fn say_both(links: &[u32; LINKS], rows: &[u32; SHEET], out: &[u16; LIST], kept: &[u32; KEPT]) {
+fn say_both(
+    rt: HostRuntime,
+    links: &[u32; LINKS],
+    rows: &[u32; SHEET],
+    out: &[u16; LIST],
+    kept: &[u32; KEPT],
+) {
     let mut reply = [0u32; REPLY];
     ponds_reply(links, rows, out, kept, &mut reply);
-    say_list(&reply);
+    say_list(rt.stdout(), &reply);
     let mut board = [0u32; BOARD];
     ponds_board(kept, &mut board);
-    say_list(&board);
+    say_list(rt.stdout(), &board);
 }
 
 // An event of so many bytes is read, taken, and everything after it written.
 fn event(
+    rt: HostRuntime,
     links: &[u32; LINKS],
     rows: &[u32; SHEET],
     into: &[u16; LIST],
@@ -68,14 +79,18 @@ fn event(
     kept: &mut [u32; KEPT],
     bytes: &mut [u8],
 ) {
-    io::read_full(STDIN_FILENO, bytes);
-    say_answer(ponds_take(links, rows, into, out, ends, kept, bytes));
-    say_kept(kept);
-    say_both(links, rows, out, kept);
+    read_full(rt.stdin(), bytes);
+    say_answer(
+        rt.stdout(),
+        ponds_take(links, rows, into, out, ends, kept, bytes),
+    );
+    say_kept(rt.stdout(), kept);
+    say_both(rt, links, rows, out, kept);
 }
 
 // A plan file of so many bytes is read, where there is one, the rooms are begun from it, and all of them written.
 fn begun(
+    rt: HostRuntime,
     links: &mut [u32; LINKS],
     rows: &mut [u32; SHEET],
     into: &mut [u16; LIST],
@@ -87,18 +102,21 @@ fn begun(
     if file.len() == 0 {
         return;
     }
-    io::read_full(STDIN_FILENO, file);
-    say_answer(ponds_begin(file, links, rows, into, out, ends, kept));
-    say_links(links);
-    say_kept(kept);
-    say_halves(into);
-    say_halves(out);
-    say_halves(ends);
-    say_rows(rows);
+    read_full(rt.stdin(), file);
+    say_answer(
+        rt.stdout(),
+        ponds_begin(file, links, rows, into, out, ends, kept),
+    );
+    say_links(rt.stdout(), links);
+    say_kept(rt.stdout(), kept);
+    say_halves(rt.stdout(), into);
+    say_halves(rt.stdout(), out);
+    say_halves(rt.stdout(), ends);
+    say_rows(rt.stdout(), rows);
 }
 
 // The rooms of a case, its plan's length in bytes, and how many events it has.
-fn day(rooms: &[u8], plan: usize, events: usize, buffer: &mut [u8]) {
+fn day(rt: HostRuntime, rooms: &[u8], plan: usize, events: usize, buffer: &mut [u8]) {
     let mut links = links_of(rooms);
     let mut rows = rows_of(rooms, ROWS_AT);
     let mut into = list_of(rooms, INTO_AT);
@@ -107,6 +125,7 @@ fn day(rooms: &[u8], plan: usize, events: usize, buffer: &mut [u8]) {
     let mut kept = kept_of(rooms, KEPT_AT);
     let m = within(plan, buffer);
     begun(
+        rt,
         &mut links,
         &mut rows,
         &mut into,
@@ -115,12 +134,13 @@ fn day(rooms: &[u8], plan: usize, events: usize, buffer: &mut [u8]) {
         &mut kept,
         &mut buffer[..m],
     );
-    say_both(&links, &rows, &out, &kept);
+    say_both(rt, &links, &rows, &out, &kept);
     let mut left = events;
     while left > 0 {
-        let next = next_size();
+        let next = next_size(rt.stdin());
         let n = within(next.n, buffer);
         event(
+            rt,
             &links,
             &rows,
             &into,
@@ -134,28 +154,28 @@ fn day(rooms: &[u8], plan: usize, events: usize, buffer: &mut [u8]) {
 }
 
 // A case; false where the input has ended.
-fn case(space: &mut [u8], buffer: &mut [u8]) -> bool {
-    let events = next_size();
-    let plan = next_size();
-    let length = next_size();
+fn case(rt: HostRuntime, space: &mut [u8], buffer: &mut [u8]) -> bool {
+    let events = next_size(rt.stdin());
+    let plan = next_size(rt.stdin());
+    let length = next_size(rt.stdin());
     if length.past {
         return false;
     }
     let n = within(length.n, space);
-    io::read_full(STDIN_FILENO, &mut space[..n]);
+    read_full(rt.stdin(), &mut space[..n]);
     let m = within(length.n, space);
-    day(&space[..m], plan.n, events.n, buffer);
+    day(rt, &space[..m], plan.n, events.n, buffer);
     true
 }
 
-fn main() {
+fn main(rt: HostRuntime) {
     let mut room = io::large_buffer();
     let space: &mut [u8] = &mut room;
     let mut more = io::large_buffer();
     let buffer: &mut [u8] = &mut more;
     let mut turns = u64::MAX;
     while turns > 0 {
-        if !case(space, buffer) {
+        if !case(rt, space, buffer) {
             break;
         }
         turns -= 1;

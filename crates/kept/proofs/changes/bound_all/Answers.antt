@@ -1,0 +1,25 @@
+-- `kept::changes::bound_all` meets its contract. Assumes nothing.
+use native.Mathlib.Omega.{arith}
+use borrow.Author.Rules.{rules}
+use mathlib.Core.Path.{refl}
+use Rattle.neighbours.proofs.Walking.{Walking, walk_start, walk_turn, walk_end, step}
+use Rattle.kept.specs.Rooms.{bounded_at}
+use Rattle.kept.proofs.changes.bound_all.Goals as goal
+
+pub loop-i-init : goal.loop-i-init
+loop-i-init c = walk_start _ _ _ _ _ c.start-i.ensures
+
+pub overflow_sub-left : goal.overflow_sub-left
+overflow_sub-left c = omega (arith, c.loop-i.invariant.fuel c.loop-i-test.true)
+
+pub loop-i-smaller : goal.loop-i-smaller
+loop-i-smaller c = omega (arith, c.loop-i.invariant.fuel c.loop-i-test.true)
+
+pub loop-i-preserved : goal.loop-i-preserved
+loop-i-preserved c =
+    let l = c.loop-i in
+    let h = c.loop-i-test.true in
+    walk_turn l.invariant _ _ _ (rw c.row_at.ensures at c.bound.ensures) (step _ _ _ _ _ h (l.invariant.fuel h) refl c.onward-i.ensures)
+
+pub returns : goal.returns
+returns c = walk_end c.loop-i.invariant c.loop-i-test.false

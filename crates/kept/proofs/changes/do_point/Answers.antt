@@ -1,0 +1,6 @@
+-- `kept::changes::do_point` meets its contract. Assumes nothing.
+use borrow.Author.Rules.{rules}
+use Rattle.kept.proofs.changes.do_point.Goals as goal
+
+pub returns : goal.returns
+returns c = rw (c.remake_all.ensures, c.mark.ensures)

@@ -1,0 +1,16 @@
+-- `kept::changes::do_set` meets its contract. Assumes nothing.
+use native.Mathlib.Omega.{arith}
+use borrow.Author.Rules.{rules}
+use mathlib.Core.Path.{◌≡◌, refl, ◌∙◌}
+use Prim.Native.Nat.{◌<◌, ◌^◌}
+use Rattle.points.specs.Sets.{members_of, count_of}
+use Rattle.points.proofs.Laws.{turn}
+use Rattle.kept.specs.Rooms.{all_done_by}
+use Rattle.kept.proofs.Sets.{set_turn, set_end}
+use Rattle.kept.proofs.changes.do_set.Given as goal
+
+abbrev pub invariant-loop-rest : goal.invariant-loop-rest
+invariant-loop-rest l = (l.rest < 2 ^ 32) × (all_done_by l.rows l.into l.out l.ends l.t l.n (members_of l.rest) l.kept ≡ all_done_by l.rows l.into l.out l.ends l.t l.n (members_of l.set) l.initial.kept)
+
+abbrev pub decreases-loop-rest : goal.decreases-loop-rest
+decreases-loop-rest l = count_of l.rest

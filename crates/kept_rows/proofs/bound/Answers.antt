@@ -1,0 +1,6 @@
+-- `kept_rows::bound` meets its contract. Assumes nothing.
+use borrow.Author.Rules.{rules}
+use Rattle.kept_rows.proofs.bound.Goals as goal
+
+pub returns : goal.returns
+returns c = rw (c.lesser-high.ensures, c.high_by.ensures, c.place-v.ensures)

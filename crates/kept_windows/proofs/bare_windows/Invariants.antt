@@ -1,0 +1,12 @@
+-- `kept_windows::bare_windows` meets its contract. Assumes nothing.
+use native.Mathlib.Omega.{arith}
+use borrow.Author.Rules.{rules}
+use Prim.Native.Nat.{◌-◌}
+use Rattle.kept_windows.proofs.Opening.{Sofar, sofar_start, sofar_turn, sofar_end}
+use Rattle.kept_windows.proofs.bare_windows.Given as goal
+
+abbrev pub invariant-loop-p : goal.invariant-loop-p
+invariant-loop-p l = Sofar l.kept l.points l.watched l.opens l.lows l.p
+
+abbrev pub decreases-loop-p : goal.decreases-loop-p
+decreases-loop-p l = l.p

@@ -192,7 +192,8 @@ module _ (test : ℕ → Bool) (at : ℕ → ℕ) (soon : (q : ℕ) → test q �
               let b = ltb-true (least_of test at qs) (at q) y in
               let m : min (at q) (least_of test at qs) ≡ least_of test at qs = omega arith in
               let n : eqb (at q) (least_of test at qs) ≡ false = ne_eqb (at q) (least_of test at qs) (omega arith) in
-              rw (e, x, m, n) (omega (arith, i.0), rw (lt-ltb (least_of test at qs) f.minute (omega arith)) (i.1 ∙ rw y refl))
+              pass_on f q qs (nearest_from given (nearer f (given q) q) qs) (rw e m) (rw (e, n))
+              (rw (e, x) (omega (arith, i.0), rw (lt-ltb (least_of test at qs) f.minute (omega arith)) (i.1 ∙ rw y refl)))
           sooner true x false y =
               let i = on (record { minute = at q; point = q }) (omega (arith, soon q e)) in
               let a = ltb-true (at q) f.minute x in

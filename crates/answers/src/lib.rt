@@ -1,4 +1,7 @@
 // The lines of the program `desk` that `text` does not have, proved from what they tell. An inner room of that program.
+
+#![tactic(auto)]
+
 ghost use Rattle.std.specs.Prelude.{◌≡◌};
 ghost use Rattle.answers.specs.Answers.{worst_line, day_refused, import_refused, close_refused, lighter_refused, dropped_line, calendar_refused, line_number};
 

@@ -3,6 +3,9 @@
 // is one struct by value, `Stage`; so is what it used of the piece. Here are its beginning and its turns in the plan part; `turns` has the whole turn.
 // Every function here has an exact contract, but for where the machine stands behind the end, which nothing asks; `plan_turn` has an inner room's
 // `requires`: that there is room for the lines.
+
+#![tactic(auto)]
+
 ghost use Rattle.std.specs.Prelude.{◌≡◌, true};
 ghost use Rattle.machine.specs.Feeds.{at_first};
 

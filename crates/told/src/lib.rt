@@ -1,5 +1,8 @@
 // The plan test's answer, a verdict and the worst minute as numbers in a lent room, for programs in other languages. A refusal leaves the room as
 // it was. An inner room: it serves `ponds`.
+
+#![tactic(auto)]
+
 ghost use Rattle.std.specs.Prelude.{◌≡◌, [], ◌∷◌};
 ghost use Rattle.told.specs.Told.{test_answer, test_room, verdict_answer, verdict_room, worst_answer, worst_room};
 

@@ -119,7 +119,8 @@ def commas(s):
             now = ""
         else:
             now += ch
-    parts.append(now)
+    if now.strip():
+        parts.append(now)
     return [p.strip() for p in parts] if len(parts) > 1 else None
 
 
@@ -460,7 +461,9 @@ def convert(crate, name, d):
         before = rest
         rest = re.sub(r"not-(?:true|false) (?:_|[\w.\-]+|\([^()]*\)) (c\.[\w\-]*not[\w\-]*\.(?:true|false))", r"\1", rest)
         stripped = before != rest
-        wrapped = re.sub(r"(?<![\w.])(c\.(?:if|loop)-not-[\w\-]*\.(?:true|false))", r"(ap not \1)", rest)
+        # (`rw` finds x itself in the goal)
+        wrap = lambda m: m.group(0) if re.search(r"\brw (?:\([^()]*)?$", rest[: m.start()]) else f"(ap not {m.group(1)})"
+        wrapped = re.sub(r"(?<![\w.])(c\.(?:if|loop)-not-[\w\-]*\.(?:true|false))", wrap, rest)
         if wrapped != rest and not stripped:
             rest = wrapped
             needs_not.append(1)

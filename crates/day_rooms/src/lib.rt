@@ -1,5 +1,8 @@
 // The engine that keeps counts, over rooms that the caller lends, for programs in other languages: begun from a plan file, an event taken, the reply and
 // the board. What the rooms hold may be any numbers, and bytes have any length. An inner room: it serves `ponds`. Nothing is asked of a caller.
+
+#![tactic(auto)]
+
 ghost use Rattle.std.specs.Prelude.{◌≡◌};
 ghost use Rattle.hulls.specs.Rooms.{board_in, board_room};
 ghost use Rattle.day_rooms.specs.Days.{BeginsFrom, TakesFrom, RepliesFrom};

@@ -1,5 +1,8 @@
 // What is said of a day at its end, of a plan file that is given as bytes and the board that an engine's room holds: the verdict, and the calendar; or
 // the reader's own refusal. It takes any bytes and any rooms. An inner room: it serves `ponds`. Nothing is asked of a caller.
+
+#![tactic(auto)]
+
 ghost use Rattle.std.specs.Prelude.{◌≡◌};
 ghost use Rattle.ended_files.specs.Ended.{verdict_file, stamp_of, calendar_file, calendar_left, calendar_answer};
 

@@ -3,6 +3,9 @@
 // Every function takes rooms that hold any numbers and any bytes. proofs/Agreeing says that from the fresh board on, through any events,
 // taken and refused, numbers, records, replies and boards are those of the plain engine, and what is kept for each point is a count over
 // the whole plan.
+
+#![tactic(auto)]
+
 ghost use Rattle.std.specs.Prelude.{◌≡◌, ◌+◌, ◌≤◌};
 ghost use Rattle.plan.specs.Limits.{most_points};
 ghost use Rattle.kept.specs.Rooms.{kept_room};

@@ -1,8 +1,7 @@
 -- The drives of a sheet's links, row by row, and the sum of a way's steps. Assumes nothing.
 use mathlib.Core.Path.{◌≡◌, refl, sym, ap, ◌∙◌}
-use mathlib.Core.Bool.{Bool, true, false}
 use mathlib.Core.List.{List, [], ◌∷◌, ◌++◌}
-use Prim.Native.Nat.{ℕ, zero, suc, ◌+◌, ◌-◌, ◌*◌, ◌<◌, ◌≤◌}
+use Prim.Native.Nat.{ℕ, suc, ◌+◌, ◌-◌, ◌*◌, ◌<◌, ◌≤◌}
 use native.Mathlib.Omega.{arith}
 use native.Mathlib.Decide.{ℕ_discrete}
 use native.Mathlib.Numerals.{add-one}
@@ -10,7 +9,6 @@ use lib.Dec.{eqb}
 use lib.ListN.{length, get_or, set, take, replicate, length-append}
 use lib.Seq.{set_at, append_snoc, take-suc}
 use borrow.Author.Tests.{ne_eqb}
-use Rattle.plan.specs.Choice.{if◌then◌else◌}
 use Rattle.plan.specs.Limits.{farthest}
 use Rattle.tables.specs.Tables.{side}
 use Rattle.rows.specs.declared.sheet.Row.{Row}

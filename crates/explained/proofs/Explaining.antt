@@ -1,35 +1,30 @@
 -- The explanation of a plan, put together: what is shown on the sheet of a plan's records holds of the plan. Assumes nothing.
 use mathlib.Core.Path.{◌≡◌, refl, sym, ap, subst, ◌∙◌}
-use mathlib.Core.Logic.{◌≢◌}
-use mathlib.Core.Bool.{Bool, true, false}
 use mathlib.Core.List.{List, [], ◌∷◌, ◌++◌, append_assoc}
-use Prim.Native.Nat.{ℕ, zero, suc, min, ◌+◌, ◌-◌, ◌<◌, ◌≤◌}
+use Prim.Native.Nat.{ℕ, suc, min, ◌+◌, ◌<◌, ◌≤◌}
 use native.Mathlib.Omega.{arith}
 use native.Mathlib.Decide.{ℕ_discrete, dec_lt}
-use lib.Dec.{eqb}
 use lib.ListN.{length, get_or, length-take}
-use borrow.Author.Tests.{ltb-true, ne_eqb, eq-eqb}
+use borrow.Author.Tests.{ltb-true, ne_eqb}
 use Rattle.numbers.specs.Fits.{All}
-use Rattle.plan.specs.Limits.{farthest, most_records}
-use Rattle.plan.specs.APlan.{point, link, is, one, how_many, points, links, link_to, blank, gap_of, records_of}
+use Rattle.plan.specs.Limits.{most_records}
+use Rattle.plan.specs.APlan.{link, is, how_many, points, links, blank, gap_of, records_of}
 use Rattle.plan.specs.ReplyNumbers.{check_of}
 use Rattle.records.specs.declared.Record.{Record}
 use Rattle.plan.specs.declared.Plan.{Plan}
-use Rattle.network.specs.Walks.{Walk, nil, step, Vee, vee, Negative, NonNegative}
-use Rattle.network.specs.Passing.{Joined, Cycle, Consistent}
+use Rattle.network.specs.Walks.{Walk, nil, step, Vee, vee}
+use Rattle.network.specs.Passing.{Joined, Cycle}
 use Rattle.network.proofs.Laws.{over, not_fine}
-use Rattle.tables.specs.Tables.{side}
-use Rattle.rows.specs.Sheet.{by, SheetEdge, SheetReady, Laid, kind_at, from_at, to_at, first_at, second_at, over_at}
+use Rattle.rows.specs.Sheet.{by, SheetEdge, SheetReady, Laid, first_at, over_at}
 use Rattle.rows.specs.Sheet.Laid.{ordinary as l_ordinary, there as l_there, back as l_back, wait as l_wait}
 use Rattle.rows.specs.Layout.{row_of, RowIs, LaidOut}
 use Rattle.rows.proofs.Lays.{inside}
 use Rattle.projection.specs.Judging.{FirstBad}
-use Rattle.projection.proofs.Laws.{ends, fine_outside, same_consistent}
-use Rattle.vee.specs.declared.Answer.{Answer}
+use Rattle.projection.proofs.Laws.{ends, fine_outside}
 use Rattle.vee.specs.declared.Answer.TheVariants as answer
-use Rattle.vee.specs.PlanTest.{spans, projections, unset, many, most_projections, edges_of, Found, all_good, good, cycle, pair, Tested, refused, too_many, tested}
+use Rattle.vee.specs.PlanTest.{spans, projections, unset, many, most_projections, edges_of, Found, good, cycle, pair, Tested, tested}
 use Rattle.vee.specs.Walked.{spans_in, WalkReady, RowsReady, CountedAs}
-use Rattle.vee.specs.TestOf.{Arc, arc, arcs_of}
+use Rattle.vee.specs.TestOf.{arc, arcs_of}
 use Rattle.vee.proofs.Rules.{Valid, no_more, one_more}
 use Rattle.vee.proofs.Plans.{more}
 use Rattle.vee.proofs.Sheets.{sheet_ready, to_sheet, from_sheet, to_plain, to_start, second_plain}
@@ -41,10 +36,9 @@ use Rattle.lengths.specs.Lengths.{length_of, no_length, Least, nothing, least}
 use Rattle.ways.specs.declared.steps.Step.{Step}
 use Rattle.ways.specs.Steps.{Leads, ups, downs, StepIn}
 use Rattle.ways.proofs.Laws.{all_over}
-use Rattle.explained.specs.declared.drives.Drive.{Drive}
 use Rattle.explained.specs.declared.reasons.Why.{Why}
 use Rattle.explained.specs.declared.Explanation.{Explanation}
-use Rattle.explained.specs.Drives.{before, drive_of, drives_of, drives_from, most_links, DriveAsks, DurationAsks}
+use Rattle.explained.specs.Drives.{drives_of, drives_from, most_links, DriveAsks, DurationAsks}
 use Rattle.explained.specs.Reasons.{why_as, PairIn, PairShown, RoundIn, RoundShown}
 use Rattle.explained.specs.Explained.{durations_of, OneOf, here, later, StepOf, explanation_as, nothing_more, Explained, plainly, by_cycle, by_pair}
 

@@ -1,15 +1,14 @@
 -- Why a projection of a sheet's records fails, as the functions find it. Assumes nothing.
-use mathlib.Core.Path.{◌≡◌, refl, sym, ap, ◌∙◌}
+use mathlib.Core.Path.{◌≡◌, refl, ◌∙◌}
 use mathlib.Core.Bool.{Bool, true, false}
-use mathlib.Core.List.{List, [], ◌∷◌, ◌++◌}
+use mathlib.Core.List.{List, [], ◌∷◌}
 use Prim.Native.Nat.{ℕ, zero, suc, ◌+◌, ◌-◌, ◌<◌, ◌≤◌}
 use native.Mathlib.Omega.{arith}
-use lib.ListN.{length, get_or, take, replicate, length-append, length-replicate, get_or-append}
+use lib.ListN.{length, get_or, replicate, length-append, length-replicate, get_or-append}
 use lib.Seq.{take-append_seam}
 use Rattle.numbers.specs.Fits.{All}
 use Rattle.plan.specs.Limits.{farthest}
-use Rattle.network.specs.Walks.{Walk, nil, step, Vee}
-use Rattle.network.specs.Passing.{Cycle, Consistent}
+use Rattle.network.specs.Walks.{Walk, Vee}
 use Rattle.network.proofs.Laws.{not_both}
 use Rattle.tables.specs.declared.table.Part.TheVariants.{All as Every}
 use Rattle.tables.specs.Tables.{side}
@@ -23,14 +22,13 @@ use Rattle.lengths.specs.Lengths.{length_of, no_length, Least}
 use Rattle.lengths.specs.Meets.{AllowAsks}
 use Rattle.ways.specs.declared.steps.Step.{Step}
 use Rattle.ways.specs.declared.steps.Way.{Way}
-use Rattle.ways.specs.Steps.{Leads, ups, downs, no_step, way_as, StepIn}
+use Rattle.ways.specs.Steps.{ups, downs, no_step, way_as, StepIn}
 use Rattle.ways.specs.Toward.{WayAsks, WayOf}
 use Rattle.ways.specs.Round.{RoundAsks, RoundOf}
 use Rattle.ways.proofs.Laws.{laid_fits}
 use Rattle.explained.specs.declared.drives.Drives.{Drives}
-use Rattle.explained.specs.declared.reasons.Why.{Why}
 use Rattle.explained.specs.Drives.{drives_as, drives_from}
-use Rattle.explained.specs.Reasons.{steps_of, SumAsks, why_as, PairIn, PairShown, RoundIn, RoundShown}
+use Rattle.explained.specs.Reasons.{steps_of, SumAsks, PairIn, PairShown, RoundIn, RoundShown}
 
 -- the steps of a way as it is handed back
 steps_of_lem : {r : Way} (es : List Step) → r ≡ way_as es → steps_of r ≡ es

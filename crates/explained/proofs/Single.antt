@@ -2,19 +2,16 @@
 -- the same shortest length and the same best. Assumes nothing.
 use mathlib.Core.Path.{◌≡◌, refl, sym, ap, ◌∙◌}
 use mathlib.Core.Bool.{true, false}
-use Prim.Native.Nat.{ℕ, ◌+◌, ◌-◌, ◌≤◌}
+use Prim.Native.Nat.{ℕ, ◌-◌}
 use native.Mathlib.Omega.{arith}
-use Rattle.plan.specs.APlan.{records_of}
 use Rattle.plan.specs.declared.Plan.{Plan}
-use Rattle.network.specs.Walks.{Walk, Vee}
 use Rattle.vee.specs.declared.Answer.{Answer}
 use Rattle.vee.specs.declared.Answer.TheVariants as answer
-use Rattle.vee.specs.PlanTest.{Tested, edges_of}
 use Rattle.vee.proofs.Single.{one_answer}
 use Rattle.lengths.specs.declared.Length.{Length}
-use Rattle.lengths.specs.Lengths.{length_of, no_length, Least, nothing, least}
+use Rattle.lengths.specs.Lengths.{Least, nothing, least}
 use Rattle.explained.specs.declared.Explanation.{Explanation}
-use Rattle.explained.specs.Explained.{durations_of, says_no, Explained, plainly, by_cycle, by_pair}
+use Rattle.explained.specs.Explained.{says_no, Explained, plainly, by_cycle, by_pair}
 
 -- there is one least length
 pub one_least : {W : ℕ → ℕ → Type 0} {a b : Length} → Least W a → Least W b → a ≡ b

@@ -1,5 +1,8 @@
 // Why the plan test says no: the durations of the projection that fails, and the steps of a cycle of negative sum, or of a shortest way
 // between the two points with its length and the best length that the windows can follow. It takes any plan.
+
+#![tactic(auto)]
+
 ghost use Rattle.std.specs.Prelude.{◌≡◌};
 ghost use Rattle.vee.specs.declared.Answer.TheVariants as answer;
 ghost use Rattle.vee.specs.PlanTest.{Tested};

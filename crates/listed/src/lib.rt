@@ -1,5 +1,8 @@
 // A plan as a listing, the way back from `listing`: for each record the line that a person would type. specs/Listed states it, and
 // proofs/PacksBack says that the lines of a plan file pack to its bytes. Nothing is asked of a caller.
+
+#![tactic(auto)]
+
 ghost use Rattle.std.specs.Prelude.{◌≡◌};
 ghost use Rattle.listed.specs.Listed.{link_line, other_line, record_line};
 

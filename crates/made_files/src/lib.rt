@@ -1,5 +1,8 @@
 // Plans that are made of a plan file or of a text, given as bytes, and their files in a lent buffer: imported, closed, lighter; or the refusal of
 // what was given. It takes any bytes and any rooms. An inner room: it serves `ponds`. Nothing is asked of a caller.
+
+#![tactic(auto)]
+
 ghost use Rattle.std.specs.Prelude.{◌≡◌};
 ghost use Rattle.plan.specs.Choice.{if◌then◌else◌};
 ghost use Rattle.made_files.specs.Made.{imported_as, import_text, close_file, filed_of, file_left, filed_answer, plan_in, dropped_left, LighterWritten};

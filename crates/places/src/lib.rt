@@ -1,6 +1,9 @@
 // The lines of an event and of the points in a reply's list, from the rooms of the engine that keeps counts: a plan by value is large,
 // and none is passed on for an event or a line. The ponds are taken out of the plan once; the records that keep points shut are read
 // from their rows. An inner room of the printing program: `line_at` has a `requires`.
+
+#![tactic(auto)]
+
 ghost use Rattle.std.specs.Prelude.{◌≡◌, ◌<◌, min};
 ghost use Rattle.plan.specs.Limits.{most_points};
 ghost use Rattle.places.specs.Places.{has_list, named_by, line_at, kept_line};

@@ -1,7 +1,7 @@
 -- The lines of `desk explain` behind that of the test: `drive A C MINUTES` for each link, for a pair `shortest LENGTH` and `allowed LENGTH` or
 -- `allowed none`, `step RECORD FROM TO LENGTH` for each step, and `sum LENGTH`. A word is the codes of its letters to the base 256, the
 -- first letter lowest. Assumes nothing.
-use Rattle.std.specs.Prelude.{Bool, not, [], ◌∷◌, ℕ, ltb}
+use Rattle.std.specs.Prelude.{not, [], ◌∷◌, ℕ, ltb}
 use Rattle.numbers.specs.Choice.{if◌then◌else◌}
 use Rattle.lines.specs.Text.{said}
 use Rattle.lines.specs.declared.Line.{Line}

@@ -1,4 +1,7 @@
 // The lines of `desk explain` behind that of the test, proved from what they tell. An inner room of the program `desk`.
+
+#![tactic(auto)]
+
 ghost use Rattle.std.specs.Prelude.{◌≡◌};
 ghost use Rattle.reasons.specs.Reasons.{length_piece, drive_line, shortest_line, allowed_line, step_line, sum_line};
 

@@ -1,6 +1,9 @@
 // The rooms of an engine that keeps counts, filled from a plan for the fresh board: its records as rows, the three lists of them, and
 // what is kept. Takes any plan, and rooms that hold any numbers. An inner room: `begin` serves `engine`, `list` also
 // `steps`.
+
+#![tactic(auto)]
+
 ghost use Rattle.std.specs.Prelude.{◌≤◌};
 ghost use Rattle.plan.specs.Limits.{most_records};
 ghost use Rattle.plan.specs.APlan.{records_of};

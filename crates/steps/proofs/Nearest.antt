@@ -164,6 +164,11 @@ module _ (test : ℕ → Bool) (at : ℕ → ℕ) (soon : (q : ℕ) → test q �
   unfolding least_of passing
   skip q qs e = (rw e refl, λ t. rw e refl)
 
+  -- a point more in front, which is not the first of the least
+  pass_on : (f : Least) (q : ℕ) (qs : List ℕ) (r : Least) → least_of test at (q ∷ qs) ≡ least_of test at qs
+      → passing (hits (least_of test at qs)) (q ∷ qs) ≡ passing (hits (least_of test at qs)) qs → Found f qs r → Found f (q ∷ qs) r
+  pass_on f q qs r s t h = rw (s, t) h
+
   found : (found : Least) (qs : List ℕ) → found.minute ≤ never → Found found qs (nearest_from given found qs)
   unfolding nearest_from least_of passing first_or
   found f [] l = (omega arith, rw (le-ltb never f.minute l))
@@ -175,9 +180,9 @@ module _ (test : ℕ → Bool) (at : ℕ → ℕ) (soon : (q : ℕ) → test q �
       go : (c : Bool) → test q ≡ c → ((g : Least) → g.minute ≤ never → Found g qs (nearest_from given g qs))
           → Found f (q ∷ qs) (nearest_from given (nearer f (given q) q) qs)
       go false e on =
-          let s = skip q qs e in
           let z : ltb never f.minute ≡ false = le-ltb never f.minute l in
-          rw (e, z) (on f l)
+          let s = skip q qs e in
+          pass_on f q qs (nearest_from given (nearer f (given q) q) qs) s.0 (s.1 (least_of test at qs)) (rw (e, z) (on f l))
       go true e on = sooner (ltb (at q) f.minute) refl (ltb (least_of test at qs) (at q)) refl
         where
           sooner : (c : Bool) → ltb (at q) f.minute ≡ c → (d : Bool) → ltb (least_of test at qs) (at q) ≡ d → Found f (q ∷ qs) (nearest_from given (nearer f (given q) q) qs)
@@ -187,7 +192,8 @@ module _ (test : ℕ → Bool) (at : ℕ → ℕ) (soon : (q : ℕ) → test q �
               let b = ltb-true (least_of test at qs) (at q) y in
               let m : min (at q) (least_of test at qs) ≡ least_of test at qs = omega arith in
               let n : eqb (at q) (least_of test at qs) ≡ false = ne_eqb (at q) (least_of test at qs) (omega arith) in
-              rw (e, x, m, n) (omega (arith, i.0), rw (lt-ltb (least_of test at qs) f.minute (omega arith)) (i.1 ∙ rw y refl))
+              pass_on f q qs (nearest_from given (nearer f (given q) q) qs) (rw e m) (rw (e, n))
+              (rw (e, x) (omega (arith, i.0), rw (lt-ltb (least_of test at qs) f.minute (omega arith)) (i.1 ∙ rw y refl)))
           sooner true x false y =
               let i = on (record { minute = at q; point = q }) (omega (arith, soon q e)) in
               let a = ltb-true (at q) f.minute x in
@@ -206,7 +212,7 @@ module _ (test : ℕ → Bool) (at : ℕ → ℕ) (soon : (q : ℕ) → test q �
                   let b = ltb-true (least_of test at qs) f.minute z in
                   let m : min (at q) (least_of test at qs) ≡ least_of test at qs = omega arith in
                   let n : eqb (at q) (least_of test at qs) ≡ false = ne_eqb (at q) (least_of test at qs) (omega arith) in
-                  rw (e, x, m, n) i
+                  pass_on f q qs (nearest_from given (nearer f (given q) q) qs) (rw e m) (rw (e, n)) (rw (e, x) i)
               late false z =
                   let i = on f l in
                   let a = ltb-false (at q) f.minute x in

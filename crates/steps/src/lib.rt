@@ -1,6 +1,9 @@
 // The next event of a board at fixed durations, where the foreman takes the aim: the first open point of the least Low. From what is
 // kept of the board (document 02, §5) and the A of each link, so that no record is read for an event. An inner room: it serves
 // `worst`. What the rooms hold may be any numbers; proofs/TheEvent says that of a plan's rooms the event is the rules'.
+
+#![tactic(auto)]
+
 ghost use Rattle.std.specs.Prelude.{◌≡◌, ◌%◌, ◌^◌, ◌<◌, ◌≤◌};
 ghost use Rattle.plan.specs.Choice.{if◌then◌else◌};
 ghost use Rattle.plan.specs.Limits.{most_points, most_records};

@@ -1,0 +1,16 @@
+-- `engine::table` meets its contract. Assumes nothing.
+use borrow.Author.Rules.{rules}
+use Prim.Native.Nat.{◌+◌, ◌-◌, ◌≤◌}
+use Rattle.plan.specs.Limits.{most_points}
+use Rattle.kept.specs.Rooms.{kept_room}
+use Rattle.engine.proofs.Reading.{Reads, reads_start, reads_turn, reads_end}
+use Rattle.engine.proofs.table.Goals as goal
+
+pub loop-q-init : goal.loop-q-init
+loop-q-init c = (c.requires, reads_start _ _)
+
+pub loop-q-preserved : goal.loop-q-preserved
+loop-q-preserved c = (c.loop-q.invariant.0, reads_turn _ _ _ _ c.loop-q-test.true c.loop-q.invariant.1)
+
+pub returns : goal.returns
+returns c = reads_end _ _ _ _ c.loop-q-test.false c.loop-q.invariant.1

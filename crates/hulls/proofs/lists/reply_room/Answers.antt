@@ -1,0 +1,26 @@
+-- `hulls::lists::reply_room` meets its contract. Assumes nothing.
+use borrow.Author.Rules.{rules}
+use Prim.Native.Nat.{◌+◌, ◌*◌, ◌-◌, ◌≤◌}
+use mathlib.Core.Path.{◌≡◌, refl}
+use lib.ListN.{length, take, length-set, length-map}
+use Rattle.plan.specs.Limits.{most_points}
+use Rattle.hulls.specs.Rooms.{place_numbers, board_length}
+use Rattle.link_numbers.proofs.Putting.{Put, put_start, put_end}
+use Rattle.hulls.proofs.Putting.{places_turn}
+use native.Mathlib.Omega.{arith}
+use Rattle.hulls.proofs.lists.reply_room.Goals as goal
+
+pub loop-q-init : goal.loop-q-init
+loop-q-init c = (omega arith, c.well_formed.0.1.1.1.1.0.1.0.1, refl, put_start _ _ _ _ _ refl)
+
+pub loop-q-preserved : goal.loop-q-preserved
+loop-q-preserved c =
+    let i = c.loop-q.invariant in
+    let h = c.loop-q-test.true in
+    (omega arith, i.1, simp length-set i.2, places_turn _ _ _ _ h i.1 i.2 i.3 _ _ refl _ _ c.state_code.ensures c.state_value.ensures)
+
+pub returns : goal.returns
+returns c =
+    let i = c.loop-q.invariant in
+    let e = c.outcome_code.ensures in
+    rw e at (put_end _ _ _ _ _ _ (omega (arith, i.1, c.loop-q-test.false)) (omega (arith, i.2, c.loop-q-test.false)) i.3)

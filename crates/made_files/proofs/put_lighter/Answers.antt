@@ -1,0 +1,16 @@
+-- `made_files::put_lighter` meets its contract. Assumes nothing.
+use borrow.Author.Rules.{rules}
+use mathlib.Core.Path.{refl}
+use Rattle.made_files.specs.Made.{plan_in}
+use Rattle.made_files.proofs.OfPlans.{filed_answer_lem, dropped_is}
+use Rattle.made_files.proofs.put_lighter.Goals as goal
+
+pub returns : goal.returns
+returns c =
+    let a = c.args in
+    let f = c.file_plan-filed.ensures in
+    record {
+      reply = filed_answer_lem (plan_in a.made) a.out.now (plan_in a.made) _ _ refl f.reply c.answer_with.ensures;
+      bytes = f.bytes;
+      dropped = dropped_is a.made a.out.now a.room.now _ _ f.reply c.put_dropped.ensures;
+    }

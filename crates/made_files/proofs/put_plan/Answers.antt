@@ -1,0 +1,13 @@
+-- `made_files::put_plan` meets its contract. Assumes nothing.
+use borrow.Author.Rules.{rules}
+use mathlib.Core.Path.{refl}
+use Rattle.made_files.proofs.OfPlans.{filed_answer_lem}
+use Rattle.made_files.proofs.put_plan.Goals as goal
+
+pub returns : goal.returns
+returns c =
+    let f = c.file_plan-filed.ensures in
+    record {
+      reply = filed_answer_lem _ _ _ _ _ refl f.reply c.answer_with.ensures;
+      bytes = f.bytes;
+    }

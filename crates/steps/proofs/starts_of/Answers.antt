@@ -1,0 +1,25 @@
+-- `steps::starts_of` meets its contract. Assumes nothing.
+use mathlib.Core.Path.{◌∙◌}
+use Prim.Native.Nat.{ℕ, ◌-◌}
+use Rattle.steps.proofs.Starting.{Filled, filled_start, filled_turn, filled_end}
+use borrow.Author.Rules.{rules}
+use native.Mathlib.Omega.{arith}
+use Rattle.steps.proofs.starts_of.Goals as goal
+
+pub loop-left-init : goal.loop-left-init
+loop-left-init c = filled_start _ _
+
+pub row_at-row-requires : goal.row_at-row-requires
+row_at-row-requires c = omega (arith, c.requires, c.loop-left.invariant.near)
+
+pub loop-left-preserved : goal.loop-left-preserved
+loop-left-preserved c =
+    filled_turn
+    c.loop-left.invariant
+    (omega (arith, c.loop-left-test.true))
+    c.row_at-row.ensures
+    c.place-c.ensures
+    (c.pick.ensures ∙ rw c.place.ensures)
+
+pub returns : goal.returns
+returns c = filled_end c.loop-left.invariant (omega arith)

@@ -24,11 +24,6 @@ use Rattle.all_runs.specs.declared.Put.{Put}
 pub cut : (log : List ℕ) (n : ℕ) → n ≤ length log → length (take n log) ≡ n
 cut log n h = omega (arith, length-take n log)
 
--- what a copy of the log's front leaves
-pub copied : (log out : List ℕ) (n : ℕ) → n ≤ length log → {out' : List ℕ} → out' ≡ take (length (take n log)) (take n log) ++ drop (length (take n log)) out
-    → out' ≡ take n log ++ drop n out
-copied log out n h e = rw (cut log n h, take_all n (take n log) (omega (arith, cut log n h))) at e
-
 module _ (out log : List ℕ) (k : ℕ) where
   pub too_short : length out < record_bytes * k
       → (put 12 0 ≡ (if ltb (length out) (record_bytes * k) then put 12 0 else put 0 k))

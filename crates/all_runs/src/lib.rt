@@ -1,5 +1,8 @@
 // The runs of a plan's projections, on the plan laid out in rows: the worst of all, and the events of one as a day in a lent buffer. An
 // inner room: it serves `worst`, and asks that the rows are those of a plan that passes.
+
+#![tactic(auto)]
+
 ghost use Rattle.std.specs.Prelude.{◌≡◌, ◌++◌, ◌*◌, ◌≤◌, ltb, length, take, drop};
 ghost use Rattle.plan.specs.Choice.{if◌then◌else◌};
 ghost use Rattle.plan.specs.Limits.{most_points, record_bytes};

@@ -2,6 +2,9 @@
 // that it reads to are filled, and what is left to print is made at the end. The events between are `saying`'s. Every function here has an exact contract;
 // which of them is called is `machine`'s, and reading and writing are `printing`'s. An inner room of the two programs: some functions have a `requires`, that there is room, which
 // every caller is proved to meet.
+
+#![tactic(auto)]
+
 mod begun;
 mod ending;
 mod front;

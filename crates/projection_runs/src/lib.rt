@@ -1,6 +1,9 @@
 // The run of a projection, on a plan laid out in rows, from what is kept of its board: its finishing minute, how many events it has,
 // and the events' bytes in a lent log. An inner room: it serves `all_runs`, and asks that the rows are those of a plan that passes, so that
 // the run finishes.
+
+#![tactic(auto)]
+
 ghost use Rattle.std.specs.Prelude.{◌≡◌};
 ghost use Rattle.promise.specs.Plays.{event_bytes};
 ghost use Rattle.projection_runs.specs.Coded.{as_played, lent, RunAsks, RanOf};

@@ -2,6 +2,9 @@
 // records of some bytes as far as there is room for the lines of one more. Every function here has an exact contract, over the rooms of
 // the engine that keeps counts. An inner room of the printing programs: some functions have a `requires`, that there is room, which every
 // caller is proved to meet.
+
+#![tactic(auto)]
+
 ghost use Rattle.std.specs.Prelude.{◌≡◌, ◌+◌, ◌*◌, ◌≤◌, min, map, length};
 ghost use Rattle.points.specs.Sets.{from};
 ghost use Rattle.plan.specs.Limits.{most_points};

@@ -1,5 +1,8 @@
 // The worst finishing minute of a plan, and the day behind it. Document 02, §13. `worst_of` and `day_of` take any plan, any
 // number and any buffer. The plan is tested and laid out in rows once; the runs of its projections are on those rows.
+
+#![tactic(auto)]
+
 ghost use Rattle.std.specs.Prelude.{◌≡◌};
 ghost use Rattle.worst.specs.WorstMinute.{worst_of, day_of, day_written};
 

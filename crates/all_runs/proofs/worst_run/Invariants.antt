@@ -1,0 +1,16 @@
+-- `all_runs::worst_run` meets its contract. Assumes nothing.
+use mathlib.Core.Path.{◌≡◌, refl, ◌∙◌}
+use Prim.Native.Nat.{ℕ, ◌+◌, ◌-◌, ◌*◌}
+use lib.ListN.{length, length-replicate}
+use Rattle.plan.specs.Limits.{most_points, record_bytes}
+use Rattle.all_runs.proofs.Searching.{Searching, few_rows, search_asks, search_runs, searching_start, searching_turn, searching_end}
+use borrow.Author.Rules.{rules}
+use native.Mathlib.Omega.{arith}
+use Rattle.all_runs.proofs.worst_run.Given as goal
+
+abbrev pub invariant-loop-i : goal.invariant-loop-i
+invariant-loop-i l =
+    (l.past ≡ l.n + l.links) × (length l.log ≡ record_bytes * most_points) × Searching l.sheet l.m l.n l.links l.many l.found l.i
+
+abbrev pub decreases-loop-i : goal.decreases-loop-i
+decreases-loop-i l = l.many - l.i

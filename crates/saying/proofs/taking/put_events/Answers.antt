@@ -1,0 +1,28 @@
+-- `saying::put_events` meets its contract. Assumes nothing.
+use Rattle.std.proofs.Common.{◌-◌, sym, refl, ◌∙◌, inl, inr, ⊎_elim, rules, leb-false, leb-true}
+use borrow.Author.Tests.{not-true, not-false}
+use Rattle.saying.proofs.Gone.{part_is, Gone, gone_none, gone_more, gone_all}
+use Rattle.saying.proofs.taking.put_events.Reads as reads
+use Rattle.saying.proofs.taking.put_events.Lts as lts
+use Rattle.saying.proofs.taking.put_event.Reads as put-event-reads
+use Rattle.std.proofs.num.wrapping_add_u64.Reads as wrapping-add-u64-reads
+use Rattle.stream.proofs.fits.Reads as fits-reads
+use Rattle.saying.proofs.taking.put_events.Goals as goal
+use Rattle.saying.proofs.taking.put_events.Goals.{else-loop-i-test, then-loop-i-test+then-not-fits}
+
+pub loop-i-init : goal.loop-i-init
+loop-i-init c = gone_none _ _ _ _ _ _ _ _ _ _ _ _ _ refl (search rules) (search rules)
+
+pub put_event-end-requires : goal.put_event-end-requires
+put_event-end-requires c = leb-true _ _ (sym c.fits.ensures ∙ c.if-not-fits.false)
+
+pub loop-i-preserved : goal.loop-i-preserved
+loop-i-preserved c = gone_more _ _ _ _ _ _ _ _ _ _ _ _ _ c.loop-i.invariant (search rules) (part_is c.loop-i.i c.args.bytes.now) c.put_event-end.ensures c.wrapping_add_u64-next.ensures.value
+
+pub returns : goal.returns
+returns c =
+    gone_all _ _ _ _ _ _ _ _ _ _ _ _ _ c.loop-i.invariant refl
+    (elim c.loop-i-test.branch [
+      | else-loop-i-test w ↦ inl w.loop-i-test.false
+      | then-loop-i-test+then-not-fits w ↦ inr (leb-false _ _ (sym w.fits.ensures ∙ w.if-not-fits.true))
+    ])

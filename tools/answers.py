@@ -351,13 +351,21 @@ def invariant(sig, body, old, new, vars_, changed, left, where):
     to = {}
     extra = [v for v, ch in zip(vars_, changed) if ch]
     want = n + len(extra)
+    by_name = {}
     if len(params) != want:
-        left.append(f"{where}: {old} takes {len(params)}, and {want} were looked for: {params} of {vars_} {changed}")
+        # the code has other variables than it had: by their names, `x₀` at the loop's start
+        for p in params:
+            own = [v for v in vars_ if norm(v) == norm(p.rstrip("₀"))]
+            if own:
+                by_name[p] = ("l.initial." if p.endswith("₀") else "l.") + own[0]
+        if [p for p in params if p not in by_name and p != "_"]:
+            left.append(f"{where}: {old} takes {len(params)}, and {want} were looked for: {params} of {vars_} {changed}")
     for i, p in enumerate(params):
         if i < n:
             to[p] = ("l.initial." if changed[i] else "l.") + vars_[i]
         elif i - n < len(extra):
             to[p] = "l." + extra[i - n]
+    to = by_name or to
     to.pop("_", None)
     names = "|".join(re.escape(p) for p in sorted(to, key=len, reverse=True))
     if names:

@@ -1,6 +1,9 @@
 // The functions of our libraries for programs in C and in Rust: `rt staticlib ponds` puts them into one archive. Each reads what it is
 // lent, calls one function of the libraries and hands back the answer as a number, whose lower half is the reply number and whose upper
 // half is what stands beside it. What is lent may have any content, and bytes any length; a refusal leaves all of it as it was.
+
+#![tactic(auto)]
+
 mod days;
 mod files;
 mod made;

@@ -1,6 +1,9 @@
 // One turn of the loop of the printing programs, whichever part the input is in and whether or not it is over: what of a piece is used, what
 // is made of it, and where the machine stands then (`Turned` of `machine`). An inner room of the two programs: it asks that there is room
 // for the lines, which its caller is proved to give. It reads and writes nothing; that is `printing`'s.
+
+#![tactic(auto)]
+
 ghost use Rattle.std.specs.Prelude.{◌≡◌, true, ◌+◌, ◌*◌, ◌≤◌, ◌<◌, length};
 ghost use Rattle.plan.specs.Limits.{most_points, record_bytes};
 ghost use Rattle.lines.specs.Text.{room};

@@ -1,5 +1,5 @@
 -- `desk::explain_verb::say_drives` meets its contract. Assumes nothing.
-use Rattle.std.proofs.Common.{◌≡◌, ◌-◌, length, arith, rules}
+use Rattle.std.proofs.Common.{◌≡◌, ◌-◌, length}
 use Rattle.plan.specs.Limits.{most_links}
 use Rattle.desk.proofs.explain_verb.say_drives.Given as goal
 

@@ -1,5 +1,5 @@
 -- `desk::explain_verb::say_steps` meets its contract. Assumes nothing.
-use Rattle.std.proofs.Common.{◌≡◌, ◌-◌, length, arith, rules}
+use Rattle.std.proofs.Common.{◌≡◌, ◌-◌, length}
 use Rattle.plan.specs.Limits.{most_points}
 use Rattle.desk.proofs.explain_verb.say_steps.Given as goal
 

@@ -1,5 +1,5 @@
 -- `desk::import_verb::fed` meets its contract. Assumes nothing.
-use Rattle.std.proofs.Common.{◌≡◌, length, rules}
+use Rattle.std.proofs.Common.{◌≡◌, length}
 use Rattle.desk.proofs.import_verb.fed.Given as goal
 
 abbrev pub invariant-loop-turns : goal.invariant-loop-turns

@@ -1,5 +1,5 @@
 -- `desk::input::pass_over` meets its contract. Assumes nothing.
-use Rattle.std.proofs.Common.{◌≡◌, length, rules}
+use Rattle.std.proofs.Common.{◌≡◌, length}
 use Rattle.desk.proofs.input.pass_over.Given as goal
 
 abbrev pub invariant-loop-turns : goal.invariant-loop-turns

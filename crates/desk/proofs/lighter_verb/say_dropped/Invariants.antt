@@ -1,5 +1,5 @@
 -- `desk::lighter_verb::say_dropped` meets its contract. Assumes nothing.
-use Rattle.std.proofs.Common.{◌≡◌, ◌-◌, length, rules}
+use Rattle.std.proofs.Common.{◌≡◌, ◌-◌, length}
 use Rattle.plan.specs.Limits.{most_records}
 use Rattle.desk.proofs.lighter_verb.say_dropped.Given as goal
 

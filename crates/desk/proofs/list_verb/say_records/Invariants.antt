@@ -1,5 +1,5 @@
 -- `desk::list_verb::say_records` meets its contract. Assumes nothing.
-use Rattle.std.proofs.Common.{◌≡◌, ◌-◌, length, rules}
+use Rattle.std.proofs.Common.{◌≡◌, ◌-◌, length}
 use Rattle.plan.specs.Limits.{most_records}
 use Rattle.desk.proofs.list_verb.say_records.Given as goal
 

@@ -1,5 +1,5 @@
 -- `desk::sheet_in::planned` meets its contract. Assumes nothing.
-use Rattle.std.proofs.Common.{◌-◌, ◌*◌, ◌^◌, ◌<◌, ◌≤◌, length, rules}
+use Rattle.std.proofs.Common.{◌-◌, ◌*◌, ◌^◌, ◌<◌, ◌≤◌, length}
 use Rattle.plan.specs.Limits.{record_bytes}
 use Rattle.desk.proofs.sheet_in.planned.Given as goal
 

@@ -1,5 +1,5 @@
 -- `desk::sheet_in::sheet_in` meets its contract. Assumes nothing.
-use Rattle.std.proofs.Common.{◌≡◌, length, rules}
+use Rattle.std.proofs.Common.{◌≡◌, length}
 use Rattle.desk.proofs.sheet_in.sheet_in.Given as goal
 
 abbrev pub invariant-loop-turns : goal.invariant-loop-turns

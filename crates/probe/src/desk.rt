@@ -1,7 +1,7 @@
 // What the requests have put on the desk so far: a plan, a board, how much of the lent buffer counts, and how often a call
 // is made.
+use crate::answered;
 use crate::block::{Block, signed};
-use crate::calls;
 use board::{Board, ROOM};
 use plan::{MOST_RECORDS, Plan, Record};
 use std::io::Stdout;
@@ -141,7 +141,7 @@ impl Desk {
             6 => self.put(block, buffer),
             7 => self.repeated(block),
             8 => self.numbered(block),
-            0 | 9..=255 => calls::called(out, self, block, buffer),
+            0 | 9..=255 => answered::called(out, self, block, buffer),
         }
     }
 }

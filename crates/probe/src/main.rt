@@ -4,8 +4,8 @@
 
 #![tactic(auto)]
 
+mod answered;
 mod block;
-mod calls;
 mod desk;
 mod many;
 mod says;

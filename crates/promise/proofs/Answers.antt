@@ -24,10 +24,8 @@ use Rattle.replies.specs.declared.Outcome.TheVariants.{Refused, Finished, Stuck,
 use Rattle.replies.specs.declared.Reply.{Reply}
 use Rattle.replies.proofs.Replying.{map_at}
 use Rattle.verdict.specs.Numbers.{verdict_number, verdict_values}
-use Rattle.verdict.specs.declared.Verdict.{Verdict}
 use Rattle.verdict.specs.declared.Verdict.TheVariants as verdict
 use Rattle.vee.specs.PlanTest.{answer_number, answer_values}
-use Rattle.vee.specs.declared.Answer.{Answer}
 use Rattle.vee.proofs.Yes.{yes_exactly}
 use Rattle.promise.specs.Answers.{AsReplied, ChoiceReplied, ReplyNumbered, VerdictNumbered, KeptNumbered, YesNumbered}
 use Rattle.promise.proofs.Executor.{executor, outcome_is}

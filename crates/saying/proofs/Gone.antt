@@ -5,7 +5,7 @@ use Rattle.links.specs.declared.Links.{Links}
 use Rattle.board.specs.Streams.{events_in}
 use Rattle.printed.proofs.Records.{length_events, events_more}
 use Rattle.saying.specs.Makes.{Made, most_made, EventPut, EventsMade, none, more, EventsPut}
-use Rattle.saying.specs.declared.taking.Said.{Said}
+use Rattle.saying.specs.declared.putting.Said.{Said}
 use Rattle.saying.proofs.Making.{made_none, made_more}
 
 -- the bytes of record i

@@ -15,7 +15,7 @@ use Rattle.lines.specs.Inside.{text_in}
 use Rattle.lines.specs.declared.Line.{Line}
 use Rattle.places.specs.Places.{has_list, kept_line, line_at}
 use Rattle.printed.specs.Texts.{texts_of}
-use Rattle.saying.specs.declared.taking.Said.{Said}
+use Rattle.saying.specs.declared.putting.Said.{Said}
 
 -- a text stands behind the first `at` bytes of a room, and ends at `end`; every other byte is as it was
 pub record Made (room₀ : List ℕ) (at : ℕ) (text room : List ℕ) (end : ℕ) : Type 0 where

@@ -14,16 +14,16 @@ ghost use Rattle.places.specs.Places.{line_at};
 ghost use Rattle.printed.specs.Texts.{texts_of};
 ghost use Rattle.saying.specs.Makes.{Made, BoardPut};
 
-mod taking;
+mod putting;
 
 use engine::{KEPT, LIST};
 use lines::Line;
 use links::Links;
 use places::{ROOM, has_list, line_at, listed};
+pub use putting::{MOST, Said, put_event, put_events};
 use replies::Reply;
 use rows::SHEET;
 use stream::behind;
-pub use taking::{MOST, Said, put_event, put_events};
 
 // The text of a line behind the first `at` bytes of the room; answers where it ends.
 pub fn put_line(lines: &mut [u8], at: usize, line: Line) -> usize

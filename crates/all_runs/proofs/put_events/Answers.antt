@@ -1,9 +1,6 @@
 -- `all_runs::put_events` meets its contract. Assumes nothing.
 use mathlib.Core.Path.{refl}
-use Prim.Native.Nat.{◌*◌}
 use native.Mathlib.Omega.{arith}
-use Rattle.plan.specs.Limits.{record_bytes}
-use borrow.Author.Rules.{rules}
 use Rattle.all_runs.proofs.Days.{too_short, long_enough}
 use Rattle.all_runs.proofs.put_events.Goals as goal
 

@@ -1,6 +1,5 @@
 -- `all_runs::worse` meets its contract. Assumes nothing.
 use Rattle.all_runs.proofs.Searching.{is_worse, no_worse}
-use borrow.Author.Rules.{rules}
 use native.Mathlib.Omega.{arith}
 use Rattle.all_runs.proofs.worse.Goals as goal
 

@@ -1,10 +1,9 @@
 -- `all_runs::worst_run` meets its contract. Assumes nothing.
-use mathlib.Core.Path.{◌≡◌, refl, ◌∙◌}
-use Prim.Native.Nat.{ℕ, ◌+◌, ◌-◌, ◌*◌}
-use lib.ListN.{length, length-replicate}
+use mathlib.Core.Path.{refl, ◌∙◌}
+use Prim.Native.Nat.{ℕ, ◌-◌, ◌*◌}
+use lib.ListN.{length-replicate}
 use Rattle.plan.specs.Limits.{most_points, record_bytes}
-use Rattle.all_runs.proofs.Searching.{Searching, few_rows, search_asks, search_runs, searching_start, searching_turn, searching_end}
-use borrow.Author.Rules.{rules}
+use Rattle.all_runs.proofs.Searching.{few_rows, search_asks, search_runs, searching_start, searching_turn, searching_end}
 use native.Mathlib.Omega.{arith}
 use Rattle.all_runs.proofs.worst_run.Goals as goal
 

@@ -1,11 +1,9 @@
 -- `all_runs::worst_run` meets its contract. Assumes nothing.
-use mathlib.Core.Path.{◌≡◌, refl, ◌∙◌}
-use Prim.Native.Nat.{ℕ, ◌+◌, ◌-◌, ◌*◌}
-use lib.ListN.{length, length-replicate}
+use mathlib.Core.Path.{◌≡◌}
+use Prim.Native.Nat.{◌+◌, ◌-◌, ◌*◌}
+use lib.ListN.{length}
 use Rattle.plan.specs.Limits.{most_points, record_bytes}
-use Rattle.all_runs.proofs.Searching.{Searching, few_rows, search_asks, search_runs, searching_start, searching_turn, searching_end}
-use borrow.Author.Rules.{rules}
-use native.Mathlib.Omega.{arith}
+use Rattle.all_runs.proofs.Searching.{Searching}
 use Rattle.all_runs.proofs.worst_run.Given as goal
 
 abbrev pub invariant-loop-i : goal.invariant-loop-i

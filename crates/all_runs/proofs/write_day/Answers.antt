@@ -4,7 +4,6 @@ use lib.ListN.{length-replicate}
 use Rattle.plan.specs.Limits.{most_points, record_bytes}
 use Rattle.all_runs.proofs.Days.{day_counts, day_few, day_written_lem}
 use native.Mathlib.Omega.{arith}
-use borrow.Author.Rules.{rules}
 use Rattle.all_runs.proofs.write_day.Goals as goal
 
 pub begin_rooms-starts-requires : goal.begin_rooms-starts-requires

@@ -1,5 +1,4 @@
 -- `answers::worst_line` meets its contract. Assumes nothing.
-use borrow.Author.Rules.{rules}
 use Rattle.answers.proofs.worst_line.Goals as goal
 
 pub returns-in-At : goal.returns-in-At

@@ -1,6 +1,4 @@
 -- `asks::alone` meets its contract. Assumes nothing.
-use native.Mathlib.Omega.{arith}
-use borrow.Author.Rules.{rules}
 use mathlib.Core.Path.{sym, ◌∙◌}
 use Rattle.asks.proofs.Known.{is_test, is_worst, is_import, is_close, is_lighter, is_rest}
 use Rattle.asks.proofs.alone.Goals as goal

@@ -1,15 +1,7 @@
 -- `asks::ask` meets its contract. Assumes nothing.
-use native.Mathlib.Omega.{arith}
-use borrow.Author.Rules.{rules}
 use mathlib.Core.Path.{ap, ◌∙◌}
 use Rattle.asks.specs.Inside.{alone_in, dated_in}
 use Rattle.asks.proofs.Known.{alone_known, counted_known, dated_known, two_words, three_words, seven_words, other_words}
-use Rattle.asks.proofs.ask.Reads as reads
-use Rattle.asks.proofs.ask.Lts as lts
-use Rattle.asks.proofs.alone.Reads as alone-reads
-use Rattle.asks.proofs.counted.Reads as counted-reads
-use Rattle.asks.proofs.dated.Reads as dated-reads
-use Rattle.asks.proofs.seen.Reads as seen-reads
 use Rattle.asks.proofs.ask.Goals as goal
 
 pub returns-then-words-eq2 : goal.returns-then-words-eq2

@@ -1,11 +1,5 @@
 -- `asks::counted` meets its contract. Assumes nothing.
-use native.Mathlib.Omega.{arith}
-use borrow.Author.Rules.{rules}
 use Rattle.asks.proofs.Known.{is_day, no_day}
-use Rattle.asks.proofs.counted.Reads as reads
-use Rattle.asks.proofs.counted.Lts as lts
-use Rattle.asks.proofs.is_count.Reads as is-count-reads
-use Rattle.asks.proofs.is_verb.Reads as is-verb-reads
 use Rattle.asks.proofs.counted.Goals as goal
 
 pub returns-then-is_verb-is_count : goal.returns-then-is_verb-is_count

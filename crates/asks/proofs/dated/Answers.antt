@@ -1,10 +1,6 @@
 -- `asks::dated` meets its contract. Assumes nothing.
-use borrow.Author.Rules.{rules}
 use mathlib.Core.Path.{sym, ◌∙◌}
 use Rattle.asks.proofs.Known.{is_calendar, no_calendar}
-use Rattle.asks.proofs.dated.Reads as reads
-use Rattle.asks.proofs.dated.Lts as lts
-use Rattle.asks.proofs.is_verb.Reads as is-verb-reads
 use Rattle.asks.proofs.dated.Goals as goal
 
 pub returns-then-is_verb : goal.returns-then-is_verb

@@ -1,10 +1,6 @@
 -- `asks::number_in` meets its contract. Assumes nothing.
-use borrow.Author.Rules.{rules}
 use mathlib.Core.Path.{sym, ◌∙◌}
 use Rattle.asks.proofs.Known.{is_given, not_given}
-use Rattle.asks.proofs.number_in.Reads as reads
-use Rattle.asks.proofs.number_in.Lts as lts
-use Rattle.asks.proofs.is_count.Reads as is-count-reads
 use Rattle.asks.proofs.number_in.Goals as goal
 
 pub returns-then-is_count : goal.returns-then-is_count

@@ -1,6 +1,4 @@
 -- `asks::typing` meets its contract. Assumes nothing.
-use native.Mathlib.Omega.{arith}
-use borrow.Author.Rules.{rules}
 use mathlib.Core.Path.{sym, ◌∙◌}
 use Rattle.asks.proofs.Known.{is_pack, is_list, is_explain, no_typing}
 use Rattle.asks.proofs.typing.Goals as goal

@@ -1,12 +1,8 @@
 -- `buffers::digits_of` meets its contract. Assumes nothing.
-use borrow.Author.Rules.{rules}
-use native.Mathlib.Omega.{arith}
 use mathlib.Core.Path.{◌≡◌}
 use Prim.Native.Nat.{◌+◌, ◌≤◌, ◌<◌, ◌^◌}
 use lib.ListN.{length}
 use Rattle.lines.specs.Text.{decimal}
-use Rattle.lines.proofs.Adding.{few_digits}
-use Rattle.buffers.proofs.Digits.{one_long, more_long}
 use Rattle.buffers.proofs.digits_of.Given as goal
 
 -- the digits counted, and those of what is left but the last, are all

@@ -1,7 +1,6 @@
 -- `buffers::put_number` meets its contract. Assumes nothing.
-use borrow.Author.Rules.{rules}
 use native.Mathlib.Omega.{arith}
-use Rattle.buffers.proofs.Digits.{some_long, Stored, stored_start, stored_more, stored_turn, stored_end}
+use Rattle.buffers.proofs.Digits.{some_long, stored_start, stored_more, stored_turn, stored_end}
 use Rattle.buffers.proofs.put_number.Goals as goal
 
 pub overflow_sub-i : goal.overflow_sub-i

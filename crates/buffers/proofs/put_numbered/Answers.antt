@@ -1,5 +1,4 @@
 -- `buffers::put_numbered` meets its contract. Assumes nothing.
-use borrow.Author.Rules.{rules}
 use Rattle.lines.specs.Text.{decimal}
 use Rattle.buffers.proofs.Laying.{then, room_first, room_behind}
 use Rattle.buffers.proofs.put_numbered.Goals as goal

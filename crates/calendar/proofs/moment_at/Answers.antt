@@ -1,5 +1,4 @@
 -- `calendar::moment_at` meets its contract. Assumes nothing.
-use borrow.Author.Rules.{rules}
 use mathlib.Core.Path.{ap, ◌∙◌}
 use Prim.Native.Nat.{ℕ}
 use Rattle.calendar.specs.Calendars.{stamp_text}

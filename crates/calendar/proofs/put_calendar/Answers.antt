@@ -1,5 +1,4 @@
 -- `calendar::put_calendar` meets its contract. Assumes nothing.
-use borrow.Author.Rules.{rules}
 use native.Mathlib.Omega.{arith}
 use Rattle.calendar.specs.Inside.{coded}
 use Rattle.buffers.proofs.Laying.{long_after}

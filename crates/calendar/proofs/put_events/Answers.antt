@@ -1,10 +1,9 @@
 -- `calendar::put_events` meets its contract. Assumes nothing.
-use borrow.Author.Rules.{rules}
 use native.Mathlib.Omega.{arith}
 use mathlib.Core.Path.{refl}
 use Prim.Native.Nat.{◌-◌}
 use Rattle.buffers.proofs.Laying.{long_after}
-use Rattle.calendar.proofs.Going.{Put, put_none, put_room, put_more, put_all}
+use Rattle.calendar.proofs.Going.{put_none, put_room, put_more, put_all}
 use Rattle.calendar.proofs.put_events.Goals as goal
 
 pub loop-p-init : goal.loop-p-init

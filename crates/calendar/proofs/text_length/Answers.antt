@@ -1,10 +1,9 @@
 -- `calendar::text_length` meets its contract. Assumes nothing.
-use borrow.Author.Rules.{rules}
 use native.Mathlib.Omega.{arith}
 use mathlib.Core.Path.{refl}
 use Prim.Native.Nat.{◌-◌}
 use Rattle.calendar.specs.Calendars.{events_length}
-use Rattle.calendar.proofs.Going.{Counted, counted_few, counted_more, counted_all}
+use Rattle.calendar.proofs.Going.{counted_few, counted_more, counted_all}
 use Rattle.calendar.proofs.text_length.Goals as goal
 
 pub loop-p-init : goal.loop-p-init

@@ -1,10 +1,6 @@
 -- `calendar::text_length` meets its contract. Assumes nothing.
-use borrow.Author.Rules.{rules}
-use native.Mathlib.Omega.{arith}
-use mathlib.Core.Path.{refl}
 use Prim.Native.Nat.{◌-◌}
-use Rattle.calendar.specs.Calendars.{events_length}
-use Rattle.calendar.proofs.Going.{Counted, counted_few, counted_more, counted_all}
+use Rattle.calendar.proofs.Going.{Counted}
 use Rattle.calendar.proofs.text_length.Given as goal
 
 abbrev pub invariant-loop-p : goal.invariant-loop-p

@@ -1,8 +1,6 @@
 -- `calendar::write_by` meets its contract. Assumes nothing.
-use borrow.Author.Rules.{rules}
 use native.Mathlib.Omega.{arith}
 use mathlib.Core.Path.{sym, ◌∙◌}
-use borrow.Author.Tests.{not-true, not-false}
 use Rattle.calendar.proofs.Writing.{of_each, refused_by_lem, no_origin_by, no_room_by, written_by}
 use Rattle.calendar.proofs.write_by.Goals as goal
 

@@ -1,6 +1,4 @@
 -- `calendar::write_calendar` meets its contract. Assumes nothing.
-use borrow.Author.Rules.{rules}
-use lib.ListN.{length-map}
 use Rattle.links.proofs.Linking.{known}
 use Rattle.calendar.specs.Inside.{SheetOf}
 use Rattle.calendar.proofs.Lengths.{few_by}

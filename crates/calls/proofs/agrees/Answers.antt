@@ -1,5 +1,4 @@
 -- `calls::agrees` meets its contract. Assumes nothing.
-use borrow.Author.Rules.{rules}
 use mathlib.Core.Bool.{not, ◌&&◌, ◌||◌}
 use lib.Dec.{eqb, ltb, leb}
 use Rattle.plan.specs.Limits.{most_points}

@@ -1,10 +1,8 @@
 -- `calls::all_unnumbered` meets its contract. Assumes nothing.
-use borrow.Author.Rules.{rules}
 use native.Mathlib.Omega.{arith}
-use mathlib.Core.Path.{◌≡◌, refl, sym, ◌∙◌}
+use mathlib.Core.Path.{refl, sym, ◌∙◌}
 use borrow.Author.Tests.{not-true, not-false}
-use Prim.Native.Nat.{◌≤◌, ◌-◌}
-use Rattle.points.specs.Sets.{from, every}
+use Prim.Native.Nat.{◌-◌}
 use Rattle.plan.specs.Limits.{most_points}
 use Rattle.history.proofs.Walks.{points_fails, points_turn, points_end}
 use Rattle.calls.specs.Calls.{unnumbered}

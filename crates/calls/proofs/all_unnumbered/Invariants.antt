@@ -1,15 +1,9 @@
 -- `calls::all_unnumbered` meets its contract. Assumes nothing.
-use borrow.Author.Rules.{rules}
-use native.Mathlib.Omega.{arith}
-use mathlib.Core.Path.{◌≡◌, refl, sym, ◌∙◌}
-use borrow.Author.Tests.{not-true, not-false}
+use mathlib.Core.Path.{◌≡◌}
 use Prim.Native.Nat.{◌≤◌, ◌-◌}
 use Rattle.points.specs.Sets.{from, every}
 use Rattle.plan.specs.Limits.{most_points}
-use Rattle.history.proofs.Walks.{points_fails, points_turn, points_end}
 use Rattle.calls.specs.Calls.{unnumbered}
-use mathlib.Core.Path.{ap}
-use mathlib.Core.Bool.{not}
 use Rattle.calls.proofs.all_unnumbered.Given as goal
 
 abbrev pub invariant-loop-p : goal.invariant-loop-p

@@ -1,13 +1,10 @@
 -- `calls::done_numbered` meets its contract. Assumes nothing.
-use borrow.Author.Rules.{rules}
 use native.Mathlib.Omega.{arith}
-use mathlib.Core.Path.{◌≡◌, refl, ap, ◌∙◌}
-use borrow.Author.Tests.{not-true, not-false}
-use Prim.Native.Nat.{◌<◌, ◌^◌}
-use Rattle.points.specs.Sets.{member, count_of}
+use mathlib.Core.Path.{refl, ap, ◌∙◌}
+use Rattle.points.specs.Sets.{member}
 use Rattle.points.proofs.Laws.{turn}
 use Rattle.calls.specs.Inside.{slot_by}
-use Rattle.calls.proofs.Slots.{SlotsOf, slots_start, refused, slots_turn, slots_end}
+use Rattle.calls.proofs.Slots.{slots_start, refused, slots_turn, slots_end}
 use Rattle.calls.proofs.done_numbered.Goals as goal
 
 pub loop-rest-init : goal.loop-rest-init

@@ -1,7 +1,5 @@
 -- `calls::is_numbered` meets its contract. Assumes nothing.
-use borrow.Author.Rules.{rules}
 use mathlib.Core.Path.{sym, ◌∙◌}
-use borrow.Author.Tests.{not-true, not-false}
 use Rattle.calls.specs.Calls.{numbered}
 use Rattle.calls.proofs.is_numbered.Goals as goal
 

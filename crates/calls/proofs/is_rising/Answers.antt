@@ -1,15 +1,13 @@
 -- `calls::is_rising` meets its contract. Assumes nothing.
-use borrow.Author.Rules.{rules}
 use native.Mathlib.Omega.{arith}
 use mathlib.Core.Path.{◌≡◌, ap, sym, ◌∙◌}
 use borrow.Author.Tests.{le-leb, lt-leb}
-use Prim.Native.Nat.{suc, ◌≤◌, ◌<◌, ◌-◌}
+use Prim.Native.Nat.{suc, ◌<◌, ◌-◌}
 use native.Mathlib.Numerals.{add-one}
 use lib.ListN.{get_or}
 use Rattle.points.specs.Sets.{from, every}
-use Rattle.plan.specs.Limits.{most_points}
 use Rattle.history.proofs.Walks.{points_fails, points_turn, points_end}
-use Rattle.calls.specs.Inside.{rises, rising}
+use Rattle.calls.specs.Inside.{rises}
 use Rattle.calls.proofs.is_rising.Goals as goal
 
 pub loop-i-init : goal.loop-i-init

@@ -1,7 +1,5 @@
 -- `cells::is_readable` meets its contract. Assumes nothing.
 use Rattle.cells.specs.Rows.{readable_in}
-use native.Mathlib.Omega.{arith}
-use borrow.Author.Rules.{rules}
 use Rattle.cells.proofs.is_readable.Goals as goal
 
 pub returns : goal.returns

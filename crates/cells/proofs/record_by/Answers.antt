@@ -2,8 +2,7 @@
 use mir.Syntax.{w32}
 use mir.ValLaws.{to_z-of_z}
 use Rattle.cells.specs.Rows.{record_in}
-use native.Mathlib.Omega.{arith}
-use borrow.Author.Rules.{rules, sfits_of}
+use borrow.Author.Rules.{sfits_of}
 use Rattle.cells.proofs.record_by.Goals as goal
 
 pub returns : goal.returns

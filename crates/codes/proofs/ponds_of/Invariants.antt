@@ -1,12 +1,9 @@
 -- `codes::ponds_of` meets its contract. Assumes nothing.
-use mathlib.Core.Path.{◌≡◌, refl}
+use mathlib.Core.Path.{◌≡◌}
 use Prim.Native.Nat.{◌≤◌, ◌-◌}
-use native.Mathlib.Omega.{arith}
-use lib.ListN.{length, length-map}
-use borrow.Author.Rules.{rules}
+use lib.ListN.{length}
 use Rattle.plan.specs.Limits.{most_points, most_records}
 use Rattle.codes.specs.Ponds.{ForEach, pond_at}
-use Rattle.codes.proofs.Filling.{filled_none, filled_more, filled_all}
 use Rattle.codes.proofs.ponds_of.Given as goal
 
 abbrev pub invariant-loop-i : goal.invariant-loop-i

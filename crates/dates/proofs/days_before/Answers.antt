@@ -1,8 +1,7 @@
 -- `dates::days_before` meets its contract. Assumes nothing.
-use borrow.Author.Rules.{rules}
 use mathlib.Core.Path.{◌≡◌, refl}
 use native.Mathlib.Omega.{arith}
-use Prim.Native.Nat.{◌*◌, ◌-◌, ◌≤◌}
+use Prim.Native.Nat.{◌-◌}
 use Rattle.dates.specs.Gregorian.{days_in}
 use Rattle.dates.specs.Counting.{before}
 use Rattle.dates.proofs.Days.{length_of_lem}

@@ -1,12 +1,8 @@
 -- `dates::days_before` meets its contract. Assumes nothing.
-use borrow.Author.Rules.{rules}
-use mathlib.Core.Path.{◌≡◌, refl}
-use native.Mathlib.Omega.{arith}
+use mathlib.Core.Path.{◌≡◌}
 use Prim.Native.Nat.{◌*◌, ◌-◌, ◌≤◌}
 use Rattle.dates.specs.Gregorian.{days_in}
 use Rattle.dates.specs.Counting.{before}
-use Rattle.dates.proofs.Days.{length_of_lem}
-use Rattle.dates.proofs.Sums.{next_part}
 use Rattle.dates.proofs.days_before.Given as goal
 
 abbrev pub invariant-loop-k : goal.invariant-loop-k

@@ -1,5 +1,4 @@
 -- `dates::days_of` meets its contract. Assumes nothing.
-use borrow.Author.Rules.{rules}
 use mathlib.Core.Path.{sym, ◌∙◌}
 use Rattle.dates.specs.Counting.{days_of}
 use Rattle.dates.proofs.days_of.Goals as goal

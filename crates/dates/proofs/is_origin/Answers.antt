@@ -1,5 +1,4 @@
 -- `dates::is_origin` meets its contract. Assumes nothing.
-use borrow.Author.Rules.{rules}
 use Rattle.dates.proofs.Minutes.{by_its_tests}
 use Rattle.dates.proofs.is_origin.Goals as goal
 

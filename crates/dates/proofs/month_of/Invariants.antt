@@ -1,11 +1,7 @@
 -- `dates::month_of` meets its contract. Assumes nothing.
-use borrow.Author.Rules.{rules}
-use native.Mathlib.Omega.{arith}
 use Prim.Native.Nat.{◌-◌, ◌≤◌}
 use Rattle.dates.specs.Gregorian.{days_in}
-use Rattle.dates.specs.Counting.{before}
-use Rattle.dates.proofs.Days.{january, not_last}
-use Rattle.dates.proofs.Passing.{Passing, turn, stop}
+use Rattle.dates.proofs.Passing.{Passing}
 use Rattle.dates.proofs.month_of.Given as goal
 
 abbrev pub invariant-loop-month_days : goal.invariant-loop-month_days

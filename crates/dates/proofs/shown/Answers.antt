@@ -1,5 +1,4 @@
 -- `dates::shown` meets its contract. Assumes nothing.
-use borrow.Author.Rules.{rules}
 use mathlib.Core.Path.{sym, ◌∙◌}
 use native.Mathlib.Omega.{arith}
 use Rattle.dates.proofs.Days.{length_of_lem}

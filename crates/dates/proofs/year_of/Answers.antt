@@ -1,11 +1,9 @@
 -- `dates::year_of` meets its contract. Assumes nothing.
-use borrow.Author.Rules.{rules}
 use mathlib.Core.Path.{refl}
 use native.Mathlib.Omega.{arith}
-use Prim.Native.Nat.{◌+◌, ◌-◌, ◌≤◌}
-use Rattle.dates.specs.Counting.{before, days_of}
+use Prim.Native.Nat.{◌-◌}
 use Rattle.dates.proofs.Days.{year_long}
-use Rattle.dates.proofs.Passing.{Passing, turn, stop}
+use Rattle.dates.proofs.Passing.{turn, stop}
 use Rattle.dates.proofs.year_of.Goals as goal
 
 pub loop-year_days-init : goal.loop-year_days-init

@@ -1,11 +1,7 @@
 -- `dates::year_of` meets its contract. Assumes nothing.
-use borrow.Author.Rules.{rules}
-use mathlib.Core.Path.{refl}
-use native.Mathlib.Omega.{arith}
 use Prim.Native.Nat.{◌+◌, ◌-◌, ◌≤◌}
 use Rattle.dates.specs.Counting.{before, days_of}
-use Rattle.dates.proofs.Days.{year_long}
-use Rattle.dates.proofs.Passing.{Passing, turn, stop}
+use Rattle.dates.proofs.Passing.{Passing}
 use Rattle.dates.proofs.year_of.Given as goal
 
 abbrev pub invariant-loop-year_days : goal.invariant-loop-year_days

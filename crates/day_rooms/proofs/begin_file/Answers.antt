@@ -1,5 +1,4 @@
 -- `day_rooms::begin_file` meets its contract. Assumes nothing.
-use borrow.Author.Rules.{rules}
 use Rattle.day_rooms.proofs.OfRooms.{begins_refused, begins_taken}
 use Rattle.day_rooms.proofs.begin_file.Goals as goal
 

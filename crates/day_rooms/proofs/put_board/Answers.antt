@@ -1,5 +1,4 @@
 -- `day_rooms::put_board` meets its contract. Assumes nothing.
-use borrow.Author.Rules.{rules}
 use mathlib.Core.Path.{refl, ap, ◌∙◌}
 use Rattle.hulls.specs.Rooms.{board_room}
 use Rattle.day_rooms.proofs.put_board.Goals as goal

@@ -1,5 +1,4 @@
 -- `day_rooms::put_reply` meets its contract. Assumes nothing.
-use borrow.Author.Rules.{rules}
 use mathlib.Core.Path.{refl}
 use Rattle.day_rooms.proofs.OfRooms.{replies_from}
 use Rattle.day_rooms.proofs.put_reply.Goals as goal

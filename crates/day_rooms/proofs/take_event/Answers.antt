@@ -1,5 +1,4 @@
 -- `day_rooms::take_event` meets its contract. Assumes nothing.
-use borrow.Author.Rules.{rules}
 use Rattle.day_rooms.proofs.OfRooms.{takes_from}
 use Rattle.day_rooms.proofs.take_event.Goals as goal
 

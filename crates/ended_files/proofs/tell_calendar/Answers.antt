@@ -1,5 +1,4 @@
 -- `ended_files::tell_calendar` meets its contract. Assumes nothing.
-use borrow.Author.Rules.{rules}
 use Rattle.ended_files.proofs.OfFiles.{calendar_answer_lem}
 use Rattle.ended_files.proofs.tell_calendar.Goals as goal
 

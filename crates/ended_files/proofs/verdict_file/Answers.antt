@@ -1,5 +1,4 @@
 -- `ended_files::verdict_file` meets its contract. Assumes nothing.
-use borrow.Author.Rules.{rules}
 use Rattle.plan.specs.declared.Plan.{Plan}
 use Rattle.board.specs.declared.Board.{Board}
 use Rattle.verdict.specs.Verdicts.{verdict_of}

@@ -1,6 +1,5 @@
 -- `engine::board_of` meets its contract. Assumes nothing.
 use mathlib.Core.Path.{refl}
-use borrow.Author.Rules.{rules}
 use Rattle.engine.proofs.board_of.Goals as goal
 
 pub returns : goal.returns

@@ -1,5 +1,4 @@
 -- `engine::number_of` meets its contract. Assumes nothing.
-use borrow.Author.Rules.{rules}
 use Rattle.engine.proofs.Reading.{unnamed, formed_28, named}
 use Rattle.engine.proofs.number_of.Goals as goal
 

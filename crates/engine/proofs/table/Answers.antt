@@ -1,9 +1,6 @@
 -- `engine::table` meets its contract. Assumes nothing.
-use borrow.Author.Rules.{rules}
-use Prim.Native.Nat.{◌+◌, ◌-◌, ◌≤◌}
-use Rattle.plan.specs.Limits.{most_points}
-use Rattle.kept.specs.Rooms.{kept_room}
-use Rattle.engine.proofs.Reading.{Reads, reads_start, reads_turn, reads_end}
+use Prim.Native.Nat.{◌-◌}
+use Rattle.engine.proofs.Reading.{reads_start, reads_turn, reads_end}
 use Rattle.engine.proofs.table.Goals as goal
 
 pub loop-q-init : goal.loop-q-init

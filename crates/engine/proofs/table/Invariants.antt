@@ -1,9 +1,8 @@
 -- `engine::table` meets its contract. Assumes nothing.
-use borrow.Author.Rules.{rules}
 use Prim.Native.Nat.{◌+◌, ◌-◌, ◌≤◌}
 use Rattle.plan.specs.Limits.{most_points}
 use Rattle.kept.specs.Rooms.{kept_room}
-use Rattle.engine.proofs.Reading.{Reads, reads_start, reads_turn, reads_end}
+use Rattle.engine.proofs.Reading.{Reads}
 use Rattle.engine.proofs.table.Given as goal
 
 abbrev pub invariant-loop-q : goal.invariant-loop-q

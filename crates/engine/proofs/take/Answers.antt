@@ -1,5 +1,4 @@
 -- `engine::take` meets its contract. Assumes nothing.
-use borrow.Author.Rules.{rules}
 use Rattle.engine.proofs.Reading.{formed, takes, refuses}
 use Rattle.engine.proofs.take.Goals as goal
 

@@ -1,5 +1,4 @@
 -- `events::event_in` meets its contract. Assumes nothing.
-use borrow.Author.Rules.{rules}
 use native.Mathlib.Omega.{arith}
 use Rattle.events.proofs.event_in.Goals as goal
 

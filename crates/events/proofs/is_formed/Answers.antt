@@ -1,5 +1,4 @@
 -- `events::is_formed` meets its contract. Assumes nothing.
-use borrow.Author.Rules.{rules}
 use borrow.Author.Tests.{eq-eqb, ne_eqb}
 use Rattle.events.proofs.is_formed.Goals as goal
 

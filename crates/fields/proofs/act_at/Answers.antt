@@ -1,7 +1,5 @@
 -- `fields::act_at` meets its contract. Assumes nothing.
 use borrow.Author.Tests.{eq-eqb, ne_eqb}
-use native.Mathlib.Omega.{arith}
-use borrow.Author.Rules.{rules}
 use Rattle.fields.proofs.act_at.Goals as goal
 
 pub returns-then-c-eq-QUOTE : goal.returns-then-c-eq-QUOTE

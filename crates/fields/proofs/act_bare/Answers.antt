@@ -1,8 +1,6 @@
 -- `fields::act_bare` meets its contract. Assumes nothing.
 use Rattle.fields.proofs.Turning.{bare_breaks, bare_keeps}
 use borrow.Author.Tests.{eq-eqb}
-use borrow.Author.Rules.{rules}
-use native.Mathlib.Omega.{arith}
 use Rattle.fields.proofs.act_bare.Goals as goal
 
 pub returns-then-c-eq-COMMA : goal.returns-then-c-eq-COMMA

@@ -1,8 +1,6 @@
 -- `fields::act_closed` meets its contract. Assumes nothing.
 use Rattle.fields.proofs.Turning.{closed_keeps}
 use borrow.Author.Tests.{eq-eqb, ne_eqb}
-use borrow.Author.Rules.{rules}
-use native.Mathlib.Omega.{arith}
 use Rattle.fields.proofs.act_closed.Goals as goal
 
 pub returns-then-c-eq-QUOTE : goal.returns-then-c-eq-QUOTE

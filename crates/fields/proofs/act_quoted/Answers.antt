@@ -1,8 +1,6 @@
 -- `fields::act_quoted` meets its contract. Assumes nothing.
 use Rattle.fields.proofs.Turning.{quoted_breaks, quoted_keeps}
 use borrow.Author.Tests.{eq-eqb}
-use borrow.Author.Rules.{rules}
-use native.Mathlib.Omega.{arith}
 use Rattle.fields.proofs.act_quoted.Goals as goal
 
 pub returns-then-c-eq-QUOTE : goal.returns-then-c-eq-QUOTE

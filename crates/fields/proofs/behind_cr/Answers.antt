@@ -1,8 +1,6 @@
 -- `fields::behind_cr` meets its contract. Assumes nothing.
 use Rattle.fields.proofs.Turning.{cr_lf, cr_alone}
 use mathlib.Core.Path.{◌∙◌}
-use native.Mathlib.Omega.{arith}
-use borrow.Author.Rules.{rules}
 use Rattle.fields.proofs.behind_cr.Goals as goal
 
 pub returns-then-c-eq-LF : goal.returns-then-c-eq-LF

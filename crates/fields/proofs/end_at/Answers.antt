@@ -1,7 +1,5 @@
 -- `fields::end_at` meets its contract. Assumes nothing.
 use Rattle.fields.proofs.Turning.{open_end}
-use native.Mathlib.Omega.{arith}
-use borrow.Author.Rules.{rules}
 use Rattle.fields.proofs.end_at.Goals as goal
 
 pub returns-in-Quoted : goal.returns-in-Quoted

@@ -1,11 +1,8 @@
 -- `fields::walk_from` meets its contract. Assumes nothing.
 use Rattle.fields.proofs.Turning.{walk_on, walk_stop, walk_end, not_on}
-use Rattle.fields.specs.Inside.{walk_from}
-use lib.ListN.{length, drop}
-use mathlib.Core.Path.{◌≡◌, refl, sym, ◌∙◌}
+use mathlib.Core.Path.{refl, sym, ◌∙◌}
 use Prim.Native.Nat.{◌-◌}
 use native.Mathlib.Omega.{arith}
-use borrow.Author.Rules.{rules}
 use borrow.Enum.Refused.{opened}
 use Rattle.fields.proofs.walk_from.Goals as goal
 

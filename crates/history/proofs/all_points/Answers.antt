@@ -1,5 +1,4 @@
 -- `history::all_points` meets its contract. Assumes nothing.
-use borrow.Author.Rules.{rules}
 use Rattle.history.proofs.all_points.Goals as goal
 
 pub returns : goal.returns

@@ -1,5 +1,4 @@
 -- `history::first_points` meets its contract. Assumes nothing.
-use borrow.Author.Rules.{rules}
 use Rattle.points.specs.Sets.{below_of}
 use native.Mathlib.Nat.{min-eq_right}
 use Rattle.history.proofs.first_points.Goals as goal

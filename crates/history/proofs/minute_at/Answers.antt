@@ -1,6 +1,5 @@
 -- `history::minute_at` meets its contract. Assumes nothing.
 use native.Mathlib.Omega.{arith}
-use borrow.Author.Rules.{rules}
 use mathlib.Core.Path.{sym}
 use lib.ListN.{get_or-eq_default}
 use Rattle.history.proofs.minute_at.Goals as goal

@@ -1,5 +1,4 @@
 -- `kept_rows::bound` meets its contract. Assumes nothing.
-use borrow.Author.Rules.{rules}
 use Rattle.kept_rows.proofs.bound.Goals as goal
 
 pub returns : goal.returns

@@ -1,5 +1,4 @@
 -- `kept_rows::free` meets its contract. Assumes nothing.
-use borrow.Author.Rules.{rules}
 use Rattle.kept_rows.proofs.Steps.{freed_by}
 use Rattle.kept_rows.proofs.free.Goals as goal
 

@@ -1,5 +1,4 @@
 -- `kept_rows::high_by` meets its contract. Assumes nothing.
-use borrow.Author.Rules.{rules}
 use Rattle.kept_rows.proofs.Steps.{high_said_lem}
 use Rattle.kept_rows.proofs.high_by.Goals as goal
 

@@ -1,5 +1,4 @@
 -- `kept_rows::hold` meets its contract. Assumes nothing.
-use borrow.Author.Rules.{rules}
 use Rattle.kept_rows.proofs.hold.Goals as goal
 
 pub returns : goal.returns

@@ -1,5 +1,4 @@
 -- `kept_rows::low_by_lem` meets its contract. Assumes nothing.
-use borrow.Author.Rules.{rules}
 use Rattle.kept_rows.proofs.Steps.{low_said_lem}
 use Rattle.kept_rows.proofs.low_by.Goals as goal
 

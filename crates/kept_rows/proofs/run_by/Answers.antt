@@ -1,5 +1,4 @@
 -- `kept_rows::run_by` meets its contract. Assumes nothing.
-use borrow.Author.Rules.{rules}
 use Rattle.kept_rows.proofs.Steps.{run_said_lem}
 use Rattle.kept_rows.proofs.run_by.Goals as goal
 

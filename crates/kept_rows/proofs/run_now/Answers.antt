@@ -1,5 +1,4 @@
 -- `kept_rows::run_now` meets its contract. Assumes nothing.
-use borrow.Author.Rules.{rules}
 use Rattle.kept_rows.proofs.Steps.{running_by}
 use Rattle.kept_rows.proofs.run_now.Goals as goal
 

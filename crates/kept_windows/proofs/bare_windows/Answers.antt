@@ -1,8 +1,7 @@
 -- `kept_windows::bare_windows` meets its contract. Assumes nothing.
 use native.Mathlib.Omega.{arith}
-use borrow.Author.Rules.{rules}
 use Prim.Native.Nat.{◌-◌}
-use Rattle.kept_windows.proofs.Opening.{Sofar, sofar_start, sofar_turn, sofar_end}
+use Rattle.kept_windows.proofs.Opening.{sofar_start, sofar_turn, sofar_end}
 use Rattle.kept_windows.proofs.bare_windows.Goals as goal
 
 pub loop-p-init : goal.loop-p-init

@@ -1,8 +1,6 @@
 -- `kept_windows::bare_windows` meets its contract. Assumes nothing.
-use native.Mathlib.Omega.{arith}
-use borrow.Author.Rules.{rules}
 use Prim.Native.Nat.{◌-◌}
-use Rattle.kept_windows.proofs.Opening.{Sofar, sofar_start, sofar_turn, sofar_end}
+use Rattle.kept_windows.proofs.Opening.{Sofar}
 use Rattle.kept_windows.proofs.bare_windows.Given as goal
 
 abbrev pub invariant-loop-p : goal.invariant-loop-p

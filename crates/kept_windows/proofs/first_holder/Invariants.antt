@@ -1,8 +1,5 @@
 -- `kept_windows::first_holder` meets its contract. Assumes nothing.
-use native.Mathlib.Omega.{arith}
-use borrow.Author.Rules.{rules}
-use mathlib.Core.Path.{refl}
-use Rattle.neighbours.proofs.Walking.{Seeking, seek_start, seek_turn, seek_found, seek_end, step}
+use Rattle.neighbours.proofs.Walking.{Seeking}
 use Rattle.kept_windows.specs.Answers.{shut_at}
 use Rattle.kept_windows.proofs.first_holder.Given as goal
 

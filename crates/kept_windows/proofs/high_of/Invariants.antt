@@ -1,15 +1,11 @@
 -- `kept_windows::high_of` meets its contract. Assumes nothing.
-use native.Mathlib.Omega.{arith}
-use borrow.Author.Rules.{rules}
-use mathlib.Core.Path.{◌≡◌, ◌∙◌}
+use mathlib.Core.Path.{◌≡◌}
 use Prim.Native.Nat.{◌<◌, ◌≤◌, ◌^◌, min}
 use lib.ListN.{drop}
 use Rattle.points.specs.Sets.{count_of, members_of}
-use Rattle.points.proofs.Laws.{turn, first_member}
 use Rattle.lowhigh.specs.Rules.{never}
 use Rattle.windows.specs.Inside.{least_at}
 use Rattle.kept.specs.Rooms.{highs_at}
-use Rattle.kept_windows.proofs.Opening.{least_at_le, least_turn, least_end}
 use Rattle.kept_windows.proofs.high_of.Given as goal
 
 abbrev pub invariant-loop-rest : goal.invariant-loop-rest

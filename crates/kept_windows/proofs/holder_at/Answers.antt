@@ -1,5 +1,4 @@
 -- `kept_windows::holder_at` meets its contract. Assumes nothing.
-use borrow.Author.Rules.{rules}
 use Rattle.kept_windows.proofs.Opening.{not_held, still_held}
 use Rattle.kept_windows.proofs.holder_at.Goals as goal
 

@@ -1,9 +1,7 @@
 -- `kept_windows::holders_of` meets its contract. Assumes nothing.
-use native.Mathlib.Omega.{arith}
-use borrow.Author.Rules.{rules}
 use Prim.Native.Nat.{◌-◌}
 use Rattle.plan.specs.Limits.{most_points}
-use Rattle.kept_windows.proofs.Opening.{Collecting, collect_start, collect_turn, collect_end}
+use Rattle.kept_windows.proofs.Opening.{Collecting}
 use Rattle.kept_windows.proofs.holders_of.Given as goal
 
 abbrev pub invariant-loop-p : goal.invariant-loop-p

@@ -1,5 +1,4 @@
 -- `kept_windows::is_open_lem` meets its contract. Assumes nothing.
-use borrow.Author.Rules.{rules}
 use Rattle.kept_windows.proofs.Opening.{open_by_lem}
 use Rattle.kept_windows.proofs.is_open.Goals as goal
 

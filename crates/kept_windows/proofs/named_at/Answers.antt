@@ -1,5 +1,4 @@
 -- `kept_windows::named_at` meets its contract. Assumes nothing.
-use borrow.Author.Rules.{rules}
 use Rattle.kept_windows.proofs.Naming.{named_by}
 use Rattle.kept_windows.proofs.named_at.Goals as goal
 

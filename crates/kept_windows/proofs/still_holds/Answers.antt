@@ -1,5 +1,4 @@
 -- `kept_windows::still_holds` meets its contract. Assumes nothing.
-use borrow.Author.Rules.{rules}
 use Rattle.kept_windows.proofs.Opening.{shut_by_lem}
 use Rattle.kept_windows.proofs.still_holds.Goals as goal
 

@@ -1,5 +1,4 @@
 -- `kept_windows::windows_of` meets its contract. Assumes nothing.
-use borrow.Author.Rules.{rules}
 use Rattle.kept_windows.proofs.windows_of.Goals as goal
 
 pub returns : goal.returns

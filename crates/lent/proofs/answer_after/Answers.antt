@@ -1,6 +1,4 @@
 -- `lent::answer_after` meets its contract. Assumes nothing.
-use borrow.Author.Rules.{rules}
-use borrow.Author.Tests.{not-true, not-false}
 use Rattle.lent.proofs.answer_after.Goals as goal
 
 pub returns-then-not-named : goal.returns-then-not-named

@@ -1,5 +1,4 @@
 -- `lent::begun` meets its contract. Assumes nothing.
-use borrow.Author.Rules.{rules}
 use borrow.Author.Tests.{eq-eqb, ne_eqb}
 use Rattle.lent.proofs.begun.Goals as goal
 

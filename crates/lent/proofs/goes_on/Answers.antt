@@ -1,5 +1,4 @@
 -- `lent::goes_on_lem` meets its contract. Assumes nothing.
-use borrow.Author.Rules.{rules}
 use Rattle.lent.proofs.Going.{kept_goes}
 use Rattle.lent.proofs.goes_on.Goals as goal
 

@@ -1,5 +1,4 @@
 -- `lent::judge` meets its contract. What the loop knows is `Going.antt`'s. Assumes nothing.
-use native.Mathlib.Omega.{arith}
 use mathlib.Core.Path.{sym, ◌∙◌}
 use lib.ListN.{length}
 use Prim.Native.Nat.{◌<◌}

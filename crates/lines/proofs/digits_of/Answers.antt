@@ -1,6 +1,5 @@
 -- `lines::digits_of` meets its contract. Assumes nothing.
-use borrow.Author.Rules.{rules}
-use Rattle.lines.proofs.Adding.{Sofar, first_digit, more_left, next_digit, all_digits_lem}
+use Rattle.lines.proofs.Adding.{first_digit, more_left, next_digit, all_digits_lem}
 use native.Mathlib.Omega.{arith}
 use Rattle.lines.proofs.digits_of.Goals as goal
 

@@ -1,6 +1,5 @@
 -- `lines::line_of` meets its contract. Assumes nothing.
 use mathlib.Core.List.{[], ◌∷◌, ◌++◌}
-use borrow.Author.Rules.{rules}
 use lib.ListN.{take}
 use Rattle.lines.specs.Text.{piece_text, more_text}
 use Rattle.lines.proofs.WholeLine.{all_left, fits_next, less_left, none_left, five_fit}

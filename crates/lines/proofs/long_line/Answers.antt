@@ -1,7 +1,6 @@
 -- `lines::long_line` meets its contract. Assumes nothing.
-use mathlib.Core.List.{[], ◌∷◌, ◌++◌}
+use mathlib.Core.List.{[], ◌∷◌}
 use native.Mathlib.Omega.{arith}
-use borrow.Author.Rules.{rules}
 use lib.ListN.{take}
 use Rattle.lines.specs.Text.{piece_text, more_text}
 use Rattle.lines.proofs.WholeLine.{lists_left, fits_next, less_left, none_left}

@@ -1,11 +1,10 @@
 -- `lines::with_more` meets its contract. Assumes nothing.
-use borrow.Author.Rules.{rules}
 use mathlib.Core.Path.{◌≡◌, ap, ◌∙◌}
-use Prim.Native.Nat.{ℕ, ◌≤◌, ◌-◌}
+use Prim.Native.Nat.{ℕ, ◌-◌}
 use native.Mathlib.Omega.{arith}
-use lib.ListN.{length, take}
+use lib.ListN.{take}
 use Rattle.lines.specs.Text.{more_text}
-use Rattle.lines.specs.Inside.{with, RoomFor}
+use Rattle.lines.specs.Inside.{with}
 use Rattle.lines.proofs.Adding.{with_nothing, room_space, room_piece, with_one}
 use Rattle.lines.proofs.with_more.Goals as goal
 

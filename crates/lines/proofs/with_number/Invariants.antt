@@ -1,12 +1,9 @@
 -- `lines::with_number` meets its contract. Assumes nothing.
-use borrow.Author.Rules.{rules}
-use mathlib.Core.Path.{◌≡◌, ◌∙◌}
+use mathlib.Core.Path.{◌≡◌}
 use Prim.Native.Nat.{◌-◌, ◌≤◌}
 use lib.ListN.{length, drop}
 use Rattle.lines.specs.Text.{decimal}
 use Rattle.lines.specs.Inside.{with, RoomFor}
-use Rattle.lines.proofs.Adding.{room_here, room_on_byte, with_byte_on, next_of, none_of, with_nothing}
-use native.Mathlib.Omega.{arith}
 use Rattle.lines.proofs.with_number.Given as goal
 
 abbrev pub invariant-loop-i : goal.invariant-loop-i

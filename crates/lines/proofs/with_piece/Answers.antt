@@ -1,7 +1,5 @@
 -- `lines::with_piece` meets its contract. Assumes nothing.
 use mathlib.Core.List.{[], ◌∷◌}
-use borrow.Author.Rules.{rules}
-use Rattle.lines.specs.Text.{decimal}
 use Rattle.lines.proofs.Adding.{room_first, room_after, with_with}
 use Rattle.lines.proofs.with_piece.Goals as goal
 

@@ -1,11 +1,8 @@
 -- `lines::with_word` meets its contract. Assumes nothing.
-use borrow.Author.Rules.{rules}
-use mathlib.Core.Path.{◌≡◌, refl, ◌∙◌}
+use mathlib.Core.Path.{◌≡◌}
 use Prim.Native.Nat.{◌^◌, ◌<◌}
 use Rattle.lines.specs.Text.{letters}
 use Rattle.lines.specs.Inside.{with, RoomFor}
-use Rattle.lines.proofs.Adding.{room_here, room_on_byte, with_byte_on, with_nothing, no_letter, more_letters}
-use native.Mathlib.Omega.{arith}
 use Rattle.lines.proofs.with_word.Given as goal
 
 abbrev pub invariant-loop-left : goal.invariant-loop-left

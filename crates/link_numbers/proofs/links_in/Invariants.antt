@@ -1,14 +1,8 @@
 -- `link_numbers::links_in` meets its contract. Assumes nothing.
-use borrow.Author.Rules.{rules}
-use mathlib.Core.Path.{ap}
-use mathlib.Core.List.{List}
 use Prim.Native.Nat.{◌-◌, ◌≤◌}
-use lib.ListN.{get_or}
-use Rattle.links.specs.declared.End.{End}
 use Rattle.plan.specs.Limits.{most_points}
 use Rattle.link_numbers.specs.Rooms.{end_in, end_at}
-use Rattle.link_numbers.proofs.Taking.{Listed, listed_start, listed_turn, listed_end}
-use native.Mathlib.Omega.{arith}
+use Rattle.link_numbers.proofs.Taking.{Listed}
 use Rattle.link_numbers.proofs.links_in.Given as goal
 
 abbrev pub invariant-loop-q : goal.invariant-loop-q

@@ -1,11 +1,8 @@
 -- `link_numbers::links_room` meets its contract. Assumes nothing.
-use borrow.Author.Rules.{rules}
-use Prim.Native.Nat.{◌+◌, ◌*◌, ◌-◌, ◌≤◌}
-use mathlib.Core.Path.{◌≡◌, refl}
-use lib.ListN.{length, take, length-set, length-map}
-use Rattle.plan.specs.Limits.{most_points}
-use Rattle.link_numbers.specs.Rooms.{end_numbers, links_length}
-use Rattle.link_numbers.proofs.Putting.{Put, put_start, put_end, links_turn}
+use Prim.Native.Nat.{◌-◌}
+use mathlib.Core.Path.{refl}
+use lib.ListN.{length-set}
+use Rattle.link_numbers.proofs.Putting.{put_start, put_end, links_turn}
 use native.Mathlib.Omega.{arith}
 use Rattle.link_numbers.proofs.links_room.Goals as goal
 

@@ -1,12 +1,10 @@
 -- `link_numbers::links_room` meets its contract. Assumes nothing.
-use borrow.Author.Rules.{rules}
 use Prim.Native.Nat.{◌+◌, ◌*◌, ◌-◌, ◌≤◌}
-use mathlib.Core.Path.{◌≡◌, refl}
-use lib.ListN.{length, take, length-set, length-map}
+use mathlib.Core.Path.{◌≡◌}
+use lib.ListN.{length, take}
 use Rattle.plan.specs.Limits.{most_points}
 use Rattle.link_numbers.specs.Rooms.{end_numbers, links_length}
-use Rattle.link_numbers.proofs.Putting.{Put, put_start, put_end, links_turn}
-use native.Mathlib.Omega.{arith}
+use Rattle.link_numbers.proofs.Putting.{Put}
 use Rattle.link_numbers.proofs.links_room.Given as goal
 
 abbrev pub invariant-loop-q : goal.invariant-loop-q

@@ -1,16 +1,11 @@
 -- `links::links_by` meets its contract. Assumes nothing.
-use borrow.Author.Rules.{rules}
-use native.Mathlib.Omega.{arith}
 use mathlib.Core.Path.{◌≡◌}
 use Prim.Native.Nat.{◌≤◌, ◌-◌, min}
-use lib.ListN.{length, take, length-map}
+use lib.ListN.{length, take}
 use Rattle.plan.specs.Limits.{most_records}
 use Rattle.plan.specs.APlan.{records_of}
 use Rattle.links.specs.Inside.{LinksOf}
-use Rattle.plan.proofs.Accepted.{accepted_plan}
-use Rattle.history.proofs.Tests.{both}
-use Rattle.plan.proofs.Records.{next_record, last_record, all_of}
-use Rattle.links.proofs.Linking.{links_as, links_none, other_turn, link_turn, past_link, links_stop}
+use Rattle.links.proofs.Linking.{links_as}
 use Rattle.links.proofs.links_by.Given as goal
 
 abbrev pub invariant-loop-i : goal.invariant-loop-i

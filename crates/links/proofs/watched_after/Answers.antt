@@ -1,5 +1,4 @@
 -- `links::watched_after` meets its contract. Assumes nothing.
-use borrow.Author.Rules.{rules}
 use borrow.Author.Tests.{eq-eqb, ne_eqb}
 use Rattle.links.proofs.watched_after.Goals as goal
 

@@ -1,5 +1,4 @@
 -- `listed::record_line` meets its contract. Assumes nothing.
-use borrow.Author.Rules.{rules}
 use borrow.Author.Tests.{eq-eqb, ne_eqb}
 use Rattle.listed.proofs.record_line.Goals as goal
 

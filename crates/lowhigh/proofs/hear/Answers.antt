@@ -1,6 +1,4 @@
 -- `lowhigh::hear` meets its contract. Assumes nothing.
-use native.Mathlib.Omega.{arith}
-use borrow.Author.Rules.{rules}
 use Rattle.lowhigh.proofs.hear.Goals as goal
 
 pub says-said-requires : goal.says-said-requires

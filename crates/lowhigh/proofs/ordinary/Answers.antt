@@ -1,5 +1,4 @@
 -- `lowhigh::ordinary` meets its contract. Assumes nothing.
-use borrow.Author.Rules.{rules}
 use Rattle.lowhigh.proofs.ordinary.Goals as goal
 
 pub returns : goal.returns

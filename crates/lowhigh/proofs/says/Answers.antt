@@ -1,10 +1,8 @@
 -- `lowhigh::says` meets its contract. Assumes nothing.
-use borrow.Author.Rules.{rules, sfits_of}
+use borrow.Author.Rules.{sfits_of}
 use borrow.Author.Tests.{eq-eqb, ne_eqb}
-use mathlib.Core.Path.{◌≡◌}
 use mir.Syntax.{w32}
 use mir.ValLaws.{to_z-of_z}
-use Rattle.plan.specs.APlan.{gap_of}
 use Rattle.lowhigh.specs.Inside.{says_of}
 use Rattle.lowhigh.proofs.says.Goals as goal
 

@@ -1,16 +1,10 @@
 -- `lowhigh::tables_of` meets its contract. Assumes nothing.
-use borrow.Author.Rules.{rules}
-use native.Mathlib.Omega.{arith}
-use mathlib.Core.Path.{◌≡◌, refl}
+use mathlib.Core.Path.{◌≡◌}
 use Prim.Native.Nat.{◌≤◌, ◌-◌, min}
-use lib.ListN.{length, take, length-map, length-set}
+use lib.ListN.{length, take}
 use Rattle.plan.specs.Limits.{most_points, most_records}
 use Rattle.plan.specs.APlan.{records_of}
-use Rattle.plan.proofs.Accepted.{accepted_plan}
-use Rattle.plan.proofs.Records.{next_record, last_record, all_of}
 use Rattle.lowhigh.specs.Inside.{TablesOf}
-use Rattle.lowhigh.proofs.Windowing.{tables_start, tables_turn}
-use Rattle.lowhigh.proofs.Smallness.{fine, small}
 use Rattle.lowhigh.proofs.tables_of.Given as goal
 
 abbrev pub invariant-loop-i : goal.invariant-loop-i

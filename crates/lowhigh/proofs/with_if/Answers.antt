@@ -1,5 +1,4 @@
 -- `lowhigh::with_if` meets its contract. Assumes nothing.
-use borrow.Author.Rules.{rules}
 use Rattle.lowhigh.proofs.with_if.Goals as goal
 
 pub returns-then-so : goal.returns-then-so

@@ -1,5 +1,4 @@
 -- `made_files::close_file` meets its contract. Assumes nothing.
-use borrow.Author.Rules.{rules}
 use Prim.Native.Nat.{ℕ}
 use mathlib.Core.Path.{◌∙◌}
 use Rattle.plan.specs.ReplyNumbers.{read_of}

@@ -1,5 +1,4 @@
 -- `made_files::file_plan` meets its contract. Assumes nothing.
-use borrow.Author.Rules.{rules}
 use mathlib.Core.Path.{◌∙◌}
 use Rattle.made_files.proofs.OfPlans.{filed, filed_left, unfiled, unfiled_left}
 use Rattle.made_files.proofs.file_plan.Goals as goal

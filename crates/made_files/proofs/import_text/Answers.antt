@@ -1,5 +1,4 @@
 -- `made_files::import_text` meets its contract. Assumes nothing.
-use borrow.Author.Rules.{rules}
 use mathlib.Core.Path.{ap, ◌∙◌}
 use Rattle.made_files.specs.Made.{imported_as}
 use Rattle.made_files.proofs.import_text.Goals as goal

@@ -1,5 +1,4 @@
 -- `made_files::imported_as` meets its contract. Assumes nothing.
-use borrow.Author.Rules.{rules}
 use Prim.Native.Nat.{ℕ}
 use mathlib.Core.Path.{ap}
 use Rattle.made_files.proofs.imported_as.Goals as goal

@@ -1,5 +1,4 @@
 -- `made_files::lighter_file` meets its contract. Assumes nothing.
-use borrow.Author.Rules.{rules}
 use Rattle.made_files.proofs.OfPlans.{lighter_unread, lighter_made}
 use Rattle.made_files.proofs.lighter_file.Goals as goal
 

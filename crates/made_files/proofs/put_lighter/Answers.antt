@@ -1,5 +1,4 @@
 -- `made_files::put_lighter` meets its contract. Assumes nothing.
-use borrow.Author.Rules.{rules}
 use mathlib.Core.Path.{refl}
 use Rattle.made_files.specs.Made.{plan_in}
 use Rattle.made_files.proofs.OfPlans.{filed_answer_lem, dropped_is}

@@ -1,5 +1,4 @@
 -- `made_files::put_plan` meets its contract. Assumes nothing.
-use borrow.Author.Rules.{rules}
 use mathlib.Core.Path.{refl}
 use Rattle.made_files.proofs.OfPlans.{filed_answer_lem}
 use Rattle.made_files.proofs.put_plan.Goals as goal

@@ -1,5 +1,4 @@
 -- `phrases::ends_word` meets its contract. Assumes nothing.
-use borrow.Author.Rules.{rules}
 use Rattle.phrases.proofs.ends_word.Goals as goal
 
 pub returns : goal.returns

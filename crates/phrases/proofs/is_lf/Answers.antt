@@ -1,5 +1,4 @@
 -- `phrases::is_lf` meets its contract. Assumes nothing.
-use borrow.Author.Rules.{rules}
 use native.Mathlib.Omega.{arith}
 use Rattle.phrases.proofs.Turning.{lf_past, lf_here}
 use Rattle.phrases.proofs.is_lf.Goals as goal

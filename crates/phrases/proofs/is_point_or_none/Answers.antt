@@ -1,5 +1,4 @@
 -- `phrases::is_point_or_none` meets its contract. Assumes nothing.
-use borrow.Author.Rules.{rules}
 use Rattle.phrases.proofs.is_point_or_none.Goals as goal
 
 pub returns : goal.returns

@@ -1,6 +1,4 @@
 -- `phrases::kind_of` meets its contract. Assumes nothing.
-use borrow.Author.Rules.{rules}
-use mathlib.Core.Path.{◌≡◌, sym, ◌∙◌}
 use borrow.Author.Tests.{eq-eqb, ne_eqb}
 use Rattle.phrases.specs.Inside.{kind_by}
 use Rattle.phrases.proofs.kind_of.Goals as goal

@@ -1,11 +1,8 @@
 -- `phrases::line_end` meets its contract. Assumes nothing.
-use borrow.Author.Rules.{rules}
-use native.Mathlib.Omega.{arith}
-use mathlib.Core.Path.{◌≡◌, refl, ◌∙◌}
+use mathlib.Core.Path.{◌≡◌}
 use Prim.Native.Nat.{◌-◌}
 use lib.ListN.{length, drop}
 use Rattle.phrases.specs.Inside.{line_end}
-use Rattle.phrases.proofs.Turning.{line_past, line_stop, line_on}
 use Rattle.phrases.proofs.line_end.Given as goal
 
 abbrev pub invariant-loop-i : goal.invariant-loop-i

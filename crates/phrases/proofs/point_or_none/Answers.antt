@@ -1,5 +1,4 @@
 -- `phrases::point_or_none` meets its contract. Assumes nothing.
-use borrow.Author.Rules.{rules}
 use Rattle.phrases.proofs.point_or_none.Goals as goal
 
 pub returns-then-is_none : goal.returns-then-is_none

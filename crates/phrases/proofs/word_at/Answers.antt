@@ -1,5 +1,4 @@
 -- `phrases::word_at` meets its contract. Assumes nothing.
-use borrow.Author.Rules.{rules}
 use Rattle.phrases.proofs.word_at.Goals as goal
 
 pub returns : goal.returns

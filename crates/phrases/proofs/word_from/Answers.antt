@@ -1,10 +1,7 @@
 -- `phrases::word_from` meets its contract. Assumes nothing.
-use borrow.Author.Rules.{rules}
 use native.Mathlib.Omega.{arith}
-use mathlib.Core.Path.{◌≡◌, refl, ◌∙◌}
+use mathlib.Core.Path.{refl, ◌∙◌}
 use Prim.Native.Nat.{◌-◌}
-use lib.ListN.{length, drop}
-use Rattle.phrases.specs.Inside.{fresh_word, word_from}
 use Rattle.phrases.proofs.Turning.{word_end, word_stop, word_on}
 use Rattle.phrases.proofs.word_from.Goals as goal
 

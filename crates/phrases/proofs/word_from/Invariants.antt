@@ -1,11 +1,8 @@
 -- `phrases::word_from` meets its contract. Assumes nothing.
-use borrow.Author.Rules.{rules}
-use native.Mathlib.Omega.{arith}
-use mathlib.Core.Path.{◌≡◌, refl, ◌∙◌}
+use mathlib.Core.Path.{◌≡◌}
 use Prim.Native.Nat.{◌-◌}
 use lib.ListN.{length, drop}
 use Rattle.phrases.specs.Inside.{fresh_word, word_from}
-use Rattle.phrases.proofs.Turning.{word_end, word_stop, word_on}
 use Rattle.phrases.proofs.word_from.Given as goal
 
 abbrev pub invariant-loop-i : goal.invariant-loop-i

@@ -1,6 +1,5 @@
 -- `places::has_list` meets its contract. Assumes nothing.
 use mathlib.Core.Path.{sym, ap}
-use borrow.Author.Rules.{rules}
 use Rattle.places.specs.Places.{has_list}
 use Rattle.places.proofs.has_list.Goals as goal
 

@@ -1,5 +1,4 @@
 -- `places::kept_line` meets its contract. Assumes nothing.
-use borrow.Author.Rules.{rules}
 use Rattle.places.proofs.Reasons.{kept_line_by}
 use Rattle.places.proofs.kept_line.Goals as goal
 

@@ -1,5 +1,4 @@
 -- `places::line_at` meets its contract. Assumes nothing.
-use borrow.Author.Rules.{rules}
 use Rattle.places.proofs.line_at.Goals as goal
 
 pub returns : goal.returns

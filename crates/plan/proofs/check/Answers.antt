@@ -1,12 +1,9 @@
 -- `plan::check` meets its contract. Assumes nothing.
-use borrow.Author.Rules.{rules}
 use native.Mathlib.Omega.{arith}
-use mathlib.Core.Path.{◌≡◌, refl, sym, ◌∙◌}
-use Prim.Native.Nat.{◌≤◌, ◌-◌}
-use lib.ListN.{length, length-map}
-use Rattle.plan.specs.Limits.{most_records}
-use Rattle.plan.proofs.Sofar.{Sofar, sofar_start, sofar_few, sofar_bad, sofar_ordinary, sofar_other, sofar_end}
-use Rattle.plan.proofs.Pairing.{entries_of, count_entries, entry_at, check_none, check_long, check_each}
+use mathlib.Core.Path.{refl, sym, ◌∙◌}
+use Prim.Native.Nat.{◌-◌}
+use Rattle.plan.proofs.Sofar.{sofar_start, sofar_few, sofar_bad, sofar_ordinary, sofar_other, sofar_end}
+use Rattle.plan.proofs.Pairing.{count_entries, entry_at, check_none, check_long, check_each}
 use Rattle.plan.proofs.check.Goals as goal
 
 pub returns-then-plan-eq0 : goal.returns-then-plan-eq0

@@ -1,12 +1,10 @@
 -- `plan::check` meets its contract. Assumes nothing.
-use borrow.Author.Rules.{rules}
-use native.Mathlib.Omega.{arith}
-use mathlib.Core.Path.{◌≡◌, refl, sym, ◌∙◌}
+use mathlib.Core.Path.{◌≡◌}
 use Prim.Native.Nat.{◌≤◌, ◌-◌}
-use lib.ListN.{length, length-map}
+use lib.ListN.{length}
 use Rattle.plan.specs.Limits.{most_records}
-use Rattle.plan.proofs.Sofar.{Sofar, sofar_start, sofar_few, sofar_bad, sofar_ordinary, sofar_other, sofar_end}
-use Rattle.plan.proofs.Pairing.{entries_of, count_entries, entry_at, check_none, check_long, check_each}
+use Rattle.plan.proofs.Sofar.{Sofar}
+use Rattle.plan.proofs.Pairing.{entries_of}
 use Rattle.plan.proofs.check.Given as goal
 
 abbrev pub invariant-loop-i : goal.invariant-loop-i

@@ -1,9 +1,7 @@
 -- `plan::count_of` meets its contract. Assumes nothing.
-use borrow.Author.Rules.{rules}
-use mathlib.Core.Path.{◌≡◌, refl, ◌∙◌}
+use mathlib.Core.Path.{refl, ◌∙◌}
 use native.Mathlib.Omega.{arith}
-use Prim.Native.Nat.{◌≤◌, ◌<◌, ◌-◌, min}
-use lib.ListN.{length, take, length-map}
+use Prim.Native.Nat.{◌<◌, ◌-◌, min}
 use Rattle.plan.specs.Limits.{most_records}
 use Rattle.plan.specs.APlan.{how_many, records_of}
 use Rattle.plan.specs.Inside.{of_byte}

@@ -1,14 +1,10 @@
 -- `plan::count_of` meets its contract. Assumes nothing.
-use borrow.Author.Rules.{rules}
-use mathlib.Core.Path.{◌≡◌, refl, ◌∙◌}
-use native.Mathlib.Omega.{arith}
-use Prim.Native.Nat.{◌≤◌, ◌<◌, ◌-◌, min}
-use lib.ListN.{length, take, length-map}
+use mathlib.Core.Path.{◌≡◌}
+use Prim.Native.Nat.{◌≤◌, ◌-◌, min}
+use lib.ListN.{length, take}
 use Rattle.plan.specs.Limits.{most_records}
 use Rattle.plan.specs.APlan.{how_many, records_of}
 use Rattle.plan.specs.Inside.{of_byte}
-use Rattle.plan.proofs.Records.{used_records, record_at_lem}
-use Rattle.plan.proofs.Lookup.{counted_more, counted_few, counted_end}
 use Rattle.plan.proofs.count_of.Given as goal
 
 abbrev pub invariant-loop-i : goal.invariant-loop-i

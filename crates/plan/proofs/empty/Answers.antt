@@ -1,5 +1,4 @@
 -- `plan::empty` meets its contract. Assumes nothing.
-use borrow.Author.Rules.{rules}
 use Rattle.plan.proofs.empty.Goals as goal
 
 pub returns : goal.returns

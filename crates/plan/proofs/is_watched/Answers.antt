@@ -1,5 +1,4 @@
 -- `plan::is_watched` meets its contract. Assumes nothing.
-use borrow.Author.Rules.{rules}
 use mathlib.Core.Path.{sym, ap, ◌∙◌}
 use Rattle.plan.specs.APlan.{ends_at, records_of}
 use Rattle.plan.proofs.Lookup.{is_at, found_some}

@@ -1,13 +1,9 @@
 -- `plan::link_to` meets its contract. Assumes nothing.
-use borrow.Author.Rules.{rules}
-use mathlib.Core.Path.{◌≡◌, refl, sym, ◌∙◌}
-use native.Mathlib.Omega.{arith}
-use Prim.Native.Nat.{◌≤◌, ◌<◌, ◌-◌, min}
-use lib.ListN.{length, drop, length-map}
+use mathlib.Core.Path.{◌≡◌}
+use Prim.Native.Nat.{◌≤◌, ◌-◌, min}
+use lib.ListN.{length, drop}
 use Rattle.plan.specs.Limits.{most_records}
 use Rattle.plan.specs.APlan.{ends_at, place_from, place_of, records_of}
-use Rattle.plan.proofs.Records.{used_records, record_at_lem}
-use Rattle.plan.proofs.Lookup.{found_here, found_later, found_nowhere}
 use Rattle.plan.proofs.link_to.Given as goal
 
 abbrev pub invariant-loop-i : goal.invariant-loop-i

@@ -1,5 +1,4 @@
 -- `plan::refuse` meets its contract. Assumes nothing.
-use borrow.Author.Rules.{rules}
 use Rattle.plan.proofs.refuse.Goals as goal
 
 pub returns : goal.returns

@@ -1,7 +1,5 @@
 -- `planless::later_from` meets its contract. Assumes nothing.
 use native.Mathlib.Omega.{arith}
-use borrow.Author.Rules.{rules}
-use borrow.Author.Tests.{not-true, not-false}
 use Rattle.events.proofs.Forming.{formed_length}
 use Rattle.planless.proofs.Numbering.{not_formed, formed}
 use Rattle.planless.proofs.later_from.Goals as goal

@@ -1,5 +1,4 @@
 -- `planless::latest_from` meets its contract. Assumes nothing.
-use borrow.Author.Rules.{rules}
 use native.Mathlib.Omega.{arith}
 use Rattle.planless.proofs.latest_from.Goals as goal
 

@@ -1,5 +1,4 @@
 -- `planless::number_from` meets its contract. Assumes nothing.
-use borrow.Author.Rules.{rules}
 use Rattle.planless.proofs.Numbering.{all_done, is_stuck, later}
 use Rattle.planless.proofs.number_from.Goals as goal
 

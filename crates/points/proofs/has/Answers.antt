@@ -1,5 +1,4 @@
 -- `points::has` meets its contract. Assumes nothing.
-use borrow.Author.Rules.{rules}
 use mathlib.Core.Path.{refl, sym}
 use Rattle.points.specs.Sets.{member}
 use Rattle.points.proofs.Laws.{member_past}

@@ -1,10 +1,7 @@
 -- `points::subset` meets its contract: the walk keeps that what is left of a is a subset of b just where a is, and each turn leaves fewer.
 -- Assumes nothing.
-use borrow.Author.Rules.{rules}
-use mathlib.Core.Path.{◌≡◌, refl, sym, ◌∙◌}
+use mathlib.Core.Path.{refl, sym, ◌∙◌}
 use native.Mathlib.Omega.{arith}
-use Prim.Native.Nat.{◌<◌, ◌^◌}
-use Rattle.points.specs.Sets.{count_of, subset_of}
 use Rattle.points.proofs.Laws.{turn, subset_empty, subset_found, subset_missing}
 use Rattle.points.proofs.subset.Goals as goal
 

@@ -1,5 +1,4 @@
 -- `points::without` meets its contract. Assumes nothing.
-use borrow.Author.Rules.{rules}
 use mathlib.Core.Path.{sym, ◌∙◌}
 use native.Mathlib.Omega.{arith}
 use Rattle.points.proofs.Laws.{member_small, member_le, without_old, without_new}

@@ -1,8 +1,6 @@
 -- `projection_runs::run` meets its contract. Assumes nothing.
-use Prim.Native.Nat.{ℕ, ◌-◌}
-use Rattle.projection_runs.specs.Coded.{lent}
-use Rattle.projection_runs.proofs.Going.{Going, going_start, going_few, going_room, going_less, going_turn, going_end}
-use borrow.Author.Rules.{rules}
+use Prim.Native.Nat.{◌-◌}
+use Rattle.projection_runs.proofs.Going.{going_start, going_few, going_room, going_less, going_turn, going_end}
 use native.Mathlib.Omega.{arith}
 use Rattle.projection_runs.proofs.run.Goals as goal
 

@@ -1,9 +1,7 @@
 -- `projection_runs::run` meets its contract. Assumes nothing.
-use Prim.Native.Nat.{ℕ, ◌-◌}
+use Prim.Native.Nat.{◌-◌}
 use Rattle.projection_runs.specs.Coded.{lent}
-use Rattle.projection_runs.proofs.Going.{Going, going_start, going_few, going_room, going_less, going_turn, going_end}
-use borrow.Author.Rules.{rules}
-use native.Mathlib.Omega.{arith}
+use Rattle.projection_runs.proofs.Going.{Going}
 use Rattle.projection_runs.proofs.run.Given as goal
 
 abbrev pub invariant-loop-kept : goal.invariant-loop-kept

@@ -1,14 +1,12 @@
 -- `records::put_records` meets its contract. Assumes nothing.
-use borrow.Author.Rules.{rules}
 use native.Mathlib.Omega.{arith}
 use mathlib.Core.Path.{◌≡◌, refl, ◌∙◌}
-use Prim.Native.Nat.{◌≤◌, ◌<◌, ◌-◌, ◌*◌}
+use Prim.Native.Nat.{◌<◌, ◌-◌}
 use lib.ListN.{length, take, get_or}
-use Rattle.records.specs.Limits.{most_records, record_bytes}
 use Rattle.records.specs.Records.{blank}
 use Rattle.records.specs.Bytes.{all_bytes}
 use lib.Seq.{get_or-take, length-take-le, take-take}
-use Rattle.records.proofs.Putting.{put_of, put_more}
+use Rattle.records.proofs.Putting.{put_more}
 use Rattle.records.proofs.put_records.Goals as goal
 
 pub loop-i-init : goal.loop-i-init

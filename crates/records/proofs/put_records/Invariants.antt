@@ -1,14 +1,9 @@
 -- `records::put_records` meets its contract. Assumes nothing.
-use borrow.Author.Rules.{rules}
-use native.Mathlib.Omega.{arith}
-use mathlib.Core.Path.{◌≡◌, refl, ◌∙◌}
-use Prim.Native.Nat.{◌≤◌, ◌<◌, ◌-◌, ◌*◌}
-use lib.ListN.{length, take, get_or}
+use mathlib.Core.Path.{◌≡◌}
+use Prim.Native.Nat.{◌≤◌, ◌-◌, ◌*◌}
+use lib.ListN.{length, take}
 use Rattle.records.specs.Limits.{most_records, record_bytes}
-use Rattle.records.specs.Records.{blank}
-use Rattle.records.specs.Bytes.{all_bytes}
-use lib.Seq.{get_or-take, length-take-le, take-take}
-use Rattle.records.proofs.Putting.{put_of, put_more}
+use Rattle.records.proofs.Putting.{put_of}
 use Rattle.records.proofs.put_records.Given as goal
 
 abbrev pub invariant-loop-i : goal.invariant-loop-i

@@ -1,13 +1,10 @@
 -- `replies::list` meets its contract. Assumes nothing.
-use borrow.Author.Rules.{rules}
 use native.Mathlib.Omega.{arith}
 use mathlib.Core.Path.{ap}
-use mathlib.Core.List.{List, []}
-use Prim.Native.Nat.{◌≤◌, ◌-◌}
+use mathlib.Core.List.{List}
+use Prim.Native.Nat.{◌-◌}
 use Rattle.replies.specs.declared.Place.{Place}
-use Rattle.plan.specs.Limits.{most_points}
-use Rattle.replies.specs.Inside.{place_from}
-use Rattle.replies.proofs.Replying.{Listed, listed_start, listed_turn, listed_end}
+use Rattle.replies.proofs.Replying.{listed_start, listed_turn, listed_end}
 use Rattle.replies.proofs.list.Goals as goal
 
 pub loop-p-init : goal.loop-p-init

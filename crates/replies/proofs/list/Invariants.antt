@@ -1,13 +1,9 @@
 -- `replies::list` meets its contract. Assumes nothing.
-use borrow.Author.Rules.{rules}
-use native.Mathlib.Omega.{arith}
-use mathlib.Core.Path.{ap}
-use mathlib.Core.List.{List, []}
+use mathlib.Core.List.{[]}
 use Prim.Native.Nat.{◌≤◌, ◌-◌}
-use Rattle.replies.specs.declared.Place.{Place}
 use Rattle.plan.specs.Limits.{most_points}
 use Rattle.replies.specs.Inside.{place_from}
-use Rattle.replies.proofs.Replying.{Listed, listed_start, listed_turn, listed_end}
+use Rattle.replies.proofs.Replying.{Listed}
 use Rattle.replies.proofs.list.Given as goal
 
 abbrev pub invariant-loop-p : goal.invariant-loop-p

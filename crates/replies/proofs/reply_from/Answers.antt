@@ -1,5 +1,4 @@
 -- `replies::reply_from` meets its contract. Assumes nothing.
-use borrow.Author.Rules.{rules}
 use Rattle.replies.proofs.ByPlan.{finishes, sticks, waits, offers}
 use Rattle.replies.proofs.reply_from.Goals as goal
 

@@ -1,5 +1,4 @@
 -- `replies::state_of` meets its contract. Assumes nothing.
-use borrow.Author.Tests.{not-true, not-false}
 use Rattle.replies.specs.Inside.{state_from}
 use Rattle.replies.proofs.state_of.Goals as goal
 

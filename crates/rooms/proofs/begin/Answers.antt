@@ -1,6 +1,4 @@
 -- `rooms::begin` meets its contract. Assumes nothing.
-use borrow.Author.Rules.{rules}
-use lib.ListN.{length-map}
 use Rattle.rooms.proofs.Beginning.{few_records, begins_taken, begins_refused}
 use Rattle.rooms.proofs.begin.Goals as goal
 

@@ -1,6 +1,4 @@
 -- `rooms::fill` meets its contract. Assumes nothing.
-use borrow.Author.Rules.{rules}
-use lib.ListN.{length-map}
 use Rattle.rooms.proofs.Beginning.{filled_by}
 use Rattle.rooms.proofs.fill.Goals as goal
 

@@ -1,5 +1,4 @@
 -- `rooms::list` meets its contract. Assumes nothing.
-use borrow.Author.Rules.{rules}
 use Rattle.rooms.proofs.list.Goals as goal
 
 pub returns : goal.returns

@@ -1,5 +1,4 @@
 -- `rules::seconds_after` meets its contract. Assumes nothing.
-use borrow.Author.Rules.{rules}
 use Rattle.rules.proofs.seconds_after.Goals as goal
 
 pub returns : goal.returns

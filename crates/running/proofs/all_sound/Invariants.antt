@@ -1,12 +1,7 @@
 -- `running::all_sound` meets its contract. Assumes nothing.
-use borrow.Author.Rules.{rules}
-use native.Mathlib.Omega.{arith}
-use mathlib.Core.Path.{◌≡◌, refl, sym, ◌∙◌}
-use borrow.Author.Tests.{not-true, not-false}
+use mathlib.Core.Path.{◌≡◌}
 use Prim.Native.Nat.{◌<◌, ◌^◌}
 use Rattle.points.specs.Sets.{members_of, every, count_of}
-use Rattle.points.proofs.Laws.{turn}
-use Rattle.history.proofs.Walks.{members_fails, members_turn, members_end}
 use Rattle.running.specs.ByTable.{sound_at}
 use Rattle.running.proofs.all_sound.Given as goal
 

@@ -1,14 +1,9 @@
 -- `running::any_running` meets its contract. Assumes nothing.
-use borrow.Author.Rules.{rules}
 use native.Mathlib.Omega.{arith}
-use mathlib.Core.Path.{◌≡◌, refl, sym, ap, ◌∙◌}
-use mathlib.Core.Bool.{Bool, not}
-use Prim.Native.Nat.{ℕ, ◌<◌, ◌^◌}
-use Rattle.points.specs.Sets.{members_of, every, count_of}
+use mathlib.Core.Path.{refl, sym, ap, ◌∙◌}
+use mathlib.Core.Bool.{not}
 use Rattle.points.proofs.Laws.{turn}
 use Rattle.history.proofs.Walks.{members_fails, members_turn, members_end}
-use Rattle.links.specs.declared.Links.{Links}
-use Rattle.running.specs.ByTable.{end_at, runs_to}
 use Rattle.running.proofs.any_running.Invariants.{idle}
 use Rattle.running.proofs.any_running.Goals as goal
 

@@ -1,5 +1,4 @@
 -- `running::is_running` meets its contract. Assumes nothing.
-use borrow.Author.Rules.{rules}
 use mathlib.Core.Bool.{not, ◌&&◌}
 use Rattle.running.proofs.is_running.Goals as goal
 

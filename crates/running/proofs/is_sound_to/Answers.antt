@@ -1,5 +1,4 @@
 -- `running::is_sound_to` meets its contract. Assumes nothing.
-use borrow.Author.Rules.{rules}
 use mathlib.Core.Bool.{not, ◌&&◌, ◌||◌}
 use Prim.Native.Nat.{◌+◌}
 use lib.Dec.{leb, ltb}

@@ -1,5 +1,4 @@
 -- `running::not_late` meets its contract. Assumes nothing.
-use borrow.Author.Rules.{rules}
 use mathlib.Core.Bool.{not, ◌||◌}
 use Prim.Native.Nat.{◌+◌}
 use lib.Dec.{leb}

@@ -1,6 +1,4 @@
 -- `running::set_number_of` meets its contract. Assumes nothing.
-use borrow.Author.Rules.{rules}
-use borrow.Author.Tests.{not-true, not-false}
 use Rattle.running.proofs.Numbering.{before_clock, not_running, not_in_time, run_out, passes}
 use Rattle.running.proofs.set_number_of.Goals as goal
 

@@ -1,15 +1,6 @@
 -- `saying::put_board` meets its contract. Assumes nothing.
-use Rattle.std.proofs.Common.{sym, ◌∙◌, rules}
-use borrow.Author.Tests.{not-true, not-false}
+use Rattle.std.proofs.Common.{sym, ◌∙◌}
 use Rattle.saying.proofs.Boards.{board_short, board_long}
-use Rattle.saying.proofs.put_board.Reads as reads
-use Rattle.saying.proofs.put_board.Lts as lts
-use Rattle.engine.proofs.board_of.Reads as board-of-reads
-use Rattle.engine.proofs.reply.Reads as reply-reads
-use Rattle.places.proofs.has_list.Reads as has-list-reads
-use Rattle.saying.proofs.put_line.Reads as put-line-reads
-use Rattle.saying.proofs.put_list.Reads as put-list-reads
-use Rattle.text.proofs.board_line.Reads as board-line-reads
 use Rattle.saying.proofs.put_board.Goals as goal
 
 pub returns-then-not-has_list : goal.returns-then-not-has_list

@@ -1,10 +1,5 @@
 -- `saying::put_line` meets its contract. Assumes nothing.
-use lib.ListN.{length-map}
-use Rattle.std.proofs.Common.{rules}
 use Rattle.saying.proofs.Making.{made_line}
-use Rattle.saying.proofs.put_line.Reads as reads
-use Rattle.saying.proofs.put_line.Lts as lts
-use Rattle.stream.proofs.behind.Reads as behind-reads
 use Rattle.saying.proofs.put_line.Goals as goal
 
 pub returns : goal.returns

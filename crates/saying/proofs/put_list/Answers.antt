@@ -1,11 +1,6 @@
 -- `saying::put_list` meets its contract. Assumes nothing.
 use Rattle.std.proofs.Common.{◌-◌, rules}
-use Rattle.saying.proofs.Listing.{Sofar, sofar_start, sofar_turn, sofar_end}
-use Rattle.saying.proofs.put_list.Reads as reads
-use Rattle.saying.proofs.put_list.Lts as lts
-use Rattle.places.proofs.line_at.Reads as line-at-reads
-use Rattle.places.proofs.listed.Reads as listed-reads
-use Rattle.saying.proofs.put_line.Reads as put-line-reads
+use Rattle.saying.proofs.Listing.{sofar_start, sofar_turn, sofar_end}
 use Rattle.saying.proofs.put_list.Goals as goal
 
 pub loop-i-init : goal.loop-i-init

@@ -1,7 +1,6 @@
 -- `sayings::holds` meets its contract. Assumes nothing.
 use borrow.Author.Tests.{eq-eqb, ne_eqb}
 use Rattle.sayings.specs.Inside.{holds_in}
-use borrow.Author.Rules.{rules}
 use Rattle.sayings.proofs.holds.Goals as goal
 
 pub returns-then-place-eq-A_POINT : goal.returns-then-place-eq-A_POINT

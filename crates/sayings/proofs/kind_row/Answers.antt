@@ -1,7 +1,6 @@
 -- `sayings::kind_row_lem` meets its contract. Assumes nothing.
 use mathlib.Core.Path.{◌∙◌}
 use Rattle.sayings.proofs.Rowing.{row_none, row_few, row_wrong, row_good}
-use borrow.Author.Rules.{rules}
 use native.Mathlib.Omega.{arith}
 use Rattle.sayings.proofs.kind_row.Goals as goal
 

@@ -1,7 +1,7 @@
 -- `sayings::link_by` meets its contract. Assumes nothing.
 use mir.Syntax.{w32}
 use mir.ValLaws.{to_z-of_z}
-use borrow.Author.Rules.{rules, sfits_of}
+use borrow.Author.Rules.{sfits_of}
 use Rattle.sayings.proofs.link_by.Goals as goal
 
 pub returns : goal.returns

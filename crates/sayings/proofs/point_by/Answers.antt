@@ -1,5 +1,4 @@
 -- `sayings::point_by` meets its contract. Assumes nothing.
-use borrow.Author.Rules.{rules}
 use Rattle.sayings.proofs.point_by.Goals as goal
 
 pub returns : goal.returns

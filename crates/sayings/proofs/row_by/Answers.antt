@@ -1,7 +1,6 @@
 -- `sayings::row_by` meets its contract. Assumes nothing.
 use mathlib.Core.Path.{◌∙◌}
 use Rattle.sayings.proofs.Rowing.{row_empty, row_some}
-use borrow.Author.Rules.{rules}
 use Rattle.sayings.proofs.row_by.Goals as goal
 
 pub returns-then-words-eq0 : goal.returns-then-words-eq0

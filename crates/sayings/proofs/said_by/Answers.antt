@@ -1,7 +1,6 @@
 -- `sayings::said_by` meets its contract. Assumes nothing.
 use borrow.Author.Tests.{eq-eqb, ne_eqb}
 use Rattle.sayings.specs.Inside.{said_in}
-use borrow.Author.Rules.{rules}
 use Rattle.sayings.proofs.said_by.Goals as goal
 
 pub returns-then-k-eq-POINT : goal.returns-then-k-eq-POINT

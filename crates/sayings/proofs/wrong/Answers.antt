@@ -1,5 +1,4 @@
 -- `sayings::wrong` meets its contract. Assumes nothing.
-use borrow.Author.Rules.{rules}
 use Rattle.sayings.proofs.wrong.Goals as goal
 
 pub returns-then-holds : goal.returns-then-holds

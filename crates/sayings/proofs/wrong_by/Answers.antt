@@ -1,6 +1,5 @@
 -- `sayings::wrong_by` meets its contract. Assumes nothing.
 use Rattle.sayings.specs.Inside.{wrong_by}
-use borrow.Author.Rules.{rules}
 use Rattle.sayings.proofs.wrong_by.Goals as goal
 
 pub returns : goal.returns

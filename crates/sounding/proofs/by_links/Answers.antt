@@ -1,5 +1,4 @@
 -- `sounding::by_links` meets its contract. Assumes nothing.
-use borrow.Author.Rules.{rules}
 use mathlib.Core.Bool.{◌&&◌}
 use Rattle.sounding.specs.ByLinks.{sound_by}
 use Rattle.sounding.proofs.by_links.Goals as goal

@@ -1,5 +1,4 @@
 -- `sounding::by_records` meets its contract. Assumes nothing.
-use borrow.Author.Rules.{rules}
 use mathlib.Core.Bool.{◌&&◌}
 use Rattle.sounding.proofs.by_records.Goals as goal
 

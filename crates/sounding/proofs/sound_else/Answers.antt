@@ -1,6 +1,5 @@
 -- `sounding::sound_else` meets its contract. Assumes nothing.
 use native.Mathlib.Omega.{arith}
-use borrow.Author.Rules.{rules}
 use Rattle.points.proofs.Laws.{count_le}
 use Rattle.sounding.proofs.sound_else.Goals as goal
 

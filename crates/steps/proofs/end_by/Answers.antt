@@ -1,9 +1,6 @@
 -- `steps::end_by_lem` meets its contract. Assumes nothing.
-use native.Mathlib.Omega.{arith}
-use borrow.Author.Rules.{rules}
 use mathlib.Core.Path.{◌≡◌, sym, ◌∙◌}
 use mathlib.Core.Bool.{true}
-use borrow.Author.Tests.{not-true, not-false}
 use lib.ListN.{get_or}
 use Rattle.points.specs.Sets.{member}
 use Rattle.kept.specs.Rooms.{done_at}

@@ -1,12 +1,9 @@
 -- `steps::end_of` meets its contract. Assumes nothing.
-use mathlib.Core.Path.{◌≡◌, refl}
-use Prim.Native.Nat.{ℕ, ◌-◌, ◌≤◌}
+use mathlib.Core.Path.{◌≡◌}
+use Prim.Native.Nat.{◌-◌, ◌≤◌}
 use Rattle.points.specs.Sets.{from}
 use Rattle.plan.specs.Limits.{most_points}
 use Rattle.steps.specs.Found.{nearest_from, nearest, end_by}
-use Rattle.steps.proofs.Nearest.{nearest_turn, nearest_end}
-use borrow.Author.Rules.{rules}
-use native.Mathlib.Omega.{arith}
 use Rattle.steps.proofs.end_of.Given as goal
 
 abbrev pub invariant-loop-c : goal.invariant-loop-c

@@ -1,13 +1,10 @@
 -- `steps::ending` meets its contract. Assumes nothing.
-use mathlib.Core.Path.{◌≡◌, refl}
-use Prim.Native.Nat.{ℕ, ◌-◌, ◌≤◌}
+use mathlib.Core.Path.{◌≡◌}
+use Prim.Native.Nat.{◌-◌, ◌≤◌}
 use Rattle.points.specs.Sets.{from}
 use Rattle.plan.specs.Limits.{most_points}
 use Rattle.promise.specs.Plays.{set_of}
 use Rattle.steps.specs.Found.{ends_then}
-use Rattle.steps.proofs.Nearest.{set_turn, set_end}
-use borrow.Author.Rules.{rules}
-use native.Mathlib.Omega.{arith}
 use Rattle.steps.proofs.ending.Given as goal
 
 abbrev pub invariant-loop-left : goal.invariant-loop-left

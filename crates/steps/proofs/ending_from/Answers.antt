@@ -1,6 +1,4 @@
 -- `steps::ending_from` meets its contract. Assumes nothing.
-use native.Mathlib.Omega.{arith}
-use borrow.Author.Rules.{rules}
 use Rattle.steps.proofs.Nearest.{none_then}
 use Rattle.steps.proofs.ending_from.Goals as goal
 

@@ -1,6 +1,5 @@
 -- `steps::first_of` meets its contract. Assumes nothing.
 use Rattle.steps.proofs.Nearest.{aim_first, end_first}
-use borrow.Author.Rules.{rules}
 use native.Mathlib.Omega.{arith}
 use Rattle.steps.proofs.first_of.Goals as goal
 

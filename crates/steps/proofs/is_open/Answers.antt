@@ -1,7 +1,5 @@
 -- `steps::is_open_lem` meets its contract. Assumes nothing.
 use Rattle.steps.proofs.Nearest.{opened}
-use native.Mathlib.Omega.{arith}
-use borrow.Author.Rules.{rules}
 use Rattle.steps.proofs.is_open.Goals as goal
 
 pub returns : goal.returns

@@ -1,8 +1,5 @@
 -- `steps::low_by_lem` meets its contract. Assumes nothing.
-use native.Mathlib.Omega.{arith}
-use borrow.Author.Rules.{rules}
 use mathlib.Core.Path.{sym, ◌∙◌}
-use borrow.Author.Tests.{not-true, not-false}
 use Rattle.steps.proofs.low_by.Goals as goal
 
 pub returns-then-not-is_open : goal.returns-then-not-is_open

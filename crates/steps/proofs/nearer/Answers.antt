@@ -1,6 +1,5 @@
 -- `steps::nearer` meets its contract. Assumes nothing.
 use Rattle.steps.proofs.Nearest.{is_sooner, no_sooner}
-use borrow.Author.Rules.{rules}
 use native.Mathlib.Omega.{arith}
 use Rattle.steps.proofs.nearer.Goals as goal
 

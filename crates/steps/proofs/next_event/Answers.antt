@@ -1,6 +1,4 @@
 -- `steps::next_event` meets its contract. Assumes nothing.
-use native.Mathlib.Omega.{arith}
-use borrow.Author.Rules.{rules}
 use Rattle.steps.proofs.Nearest.{event_made}
 use Rattle.steps.proofs.next_event.Goals as goal
 

@@ -1,8 +1,7 @@
 -- `steps::starts_of` meets its contract. Assumes nothing.
 use mathlib.Core.Path.{◌∙◌}
-use Prim.Native.Nat.{ℕ, ◌-◌}
-use Rattle.steps.proofs.Starting.{Filled, filled_start, filled_turn, filled_end}
-use borrow.Author.Rules.{rules}
+use Prim.Native.Nat.{◌-◌}
+use Rattle.steps.proofs.Starting.{filled_start, filled_turn, filled_end}
 use native.Mathlib.Omega.{arith}
 use Rattle.steps.proofs.starts_of.Goals as goal
 

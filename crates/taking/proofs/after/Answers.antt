@@ -1,5 +1,4 @@
 -- `taking::after` meets its contract. Assumes nothing.
-use borrow.Author.Rules.{rules}
 use mathlib.Core.List.{[], ◌∷◌, append-nil}
 use borrow.Author.Tests.{eq-eqb, ne_eqb}
 use Rattle.points.specs.Sets.{members_of}

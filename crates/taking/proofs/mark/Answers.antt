@@ -1,7 +1,5 @@
 -- `taking::mark` meets its contract. Assumes nothing.
 use native.Mathlib.Omega.{arith}
-use borrow.Author.Rules.{rules}
-use lib.ListN.{length-map}
 use Rattle.taking.proofs.Marking.{mark_past}
 use Rattle.taking.proofs.mark.Goals as goal
 

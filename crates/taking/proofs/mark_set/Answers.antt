@@ -1,13 +1,8 @@
 -- `taking::mark_set` meets its contract. Assumes nothing.
-use borrow.Author.Rules.{rules}
 use native.Mathlib.Omega.{arith}
-use mathlib.Core.Path.{◌≡◌, refl, ◌∙◌}
-use Prim.Native.Nat.{◌<◌, ◌^◌}
-use lib.ListN.{length, length-map, length-set}
-use Rattle.points.specs.Sets.{members_of, count_of}
+use mathlib.Core.Path.{refl, ◌∙◌}
+use lib.ListN.{length-set}
 use Rattle.points.proofs.Laws.{turn}
-use Rattle.taking.specs.Steps.{marked_by}
-use Rattle.plan.specs.Limits.{most_points}
 use Rattle.taking.proofs.Marking.{marks_turn, marks_end}
 use Rattle.taking.proofs.mark_set.Goals as goal
 

@@ -1,14 +1,10 @@
 -- `taking::mark_set` meets its contract. Assumes nothing.
-use borrow.Author.Rules.{rules}
-use native.Mathlib.Omega.{arith}
-use mathlib.Core.Path.{◌≡◌, refl, ◌∙◌}
+use mathlib.Core.Path.{◌≡◌}
 use Prim.Native.Nat.{◌<◌, ◌^◌}
-use lib.ListN.{length, length-map, length-set}
+use lib.ListN.{length}
 use Rattle.points.specs.Sets.{members_of, count_of}
-use Rattle.points.proofs.Laws.{turn}
 use Rattle.taking.specs.Steps.{marked_by}
 use Rattle.plan.specs.Limits.{most_points}
-use Rattle.taking.proofs.Marking.{marks_turn, marks_end}
 use Rattle.taking.proofs.mark_set.Given as goal
 
 abbrev pub invariant-loop-rest : goal.invariant-loop-rest

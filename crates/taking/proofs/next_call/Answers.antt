@@ -1,5 +1,4 @@
 -- `taking::next_call` meets its contract. Assumes nothing.
-use borrow.Author.Rules.{rules}
 use native.Mathlib.Omega.{arith}
 use Rattle.taking.proofs.next_call.Goals as goal
 

@@ -1,6 +1,5 @@
 -- `taking::step_from` meets its contract. Assumes nothing.
 use native.Mathlib.Omega.{arith}
-use borrow.Author.Rules.{rules}
 use mathlib.Core.Path.{refl}
 use Rattle.events.proofs.Forming.{formed_length}
 use Rattle.taking.proofs.Stepping.{formed, refuses, takes}

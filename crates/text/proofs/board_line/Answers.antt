@@ -1,5 +1,4 @@
 -- `text::board_line` meets its contract. Assumes nothing.
-use borrow.Author.Rules.{rules}
 use Rattle.text.proofs.board_line.Goals as goal
 
 pub returns-in-Finished : goal.returns-in-Finished

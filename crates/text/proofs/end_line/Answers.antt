@@ -1,5 +1,4 @@
 -- `text::end_line_lem` meets its contract. Assumes nothing.
-use borrow.Author.Rules.{rules}
 use Rattle.text.proofs.end_line.Goals as goal
 
 pub returns-in-Finished : goal.returns-in-Finished

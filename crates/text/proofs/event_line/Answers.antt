@@ -1,5 +1,4 @@
 -- `text::event_line` meets its contract. Assumes nothing.
-use borrow.Author.Rules.{rules}
 use Rattle.text.proofs.event_line.Goals as goal
 
 pub returns : goal.returns

@@ -1,6 +1,4 @@
 -- `text::point_line` meets its contract. Assumes nothing.
-use native.Mathlib.Omega.{arith}
-use borrow.Author.Rules.{rules}
 use Rattle.text.proofs.point_line.Goals as goal
 
 pub returns-in-Done : goal.returns-in-Done

@@ -1,7 +1,5 @@
 -- `text::reply_line` meets its contract. Assumes nothing.
 use borrow.Author.Tests.{eq-eqb, ne_eqb}
-use native.Mathlib.Omega.{arith}
-use borrow.Author.Rules.{rules}
 use Rattle.text.proofs.reply_line.Goals as goal
 
 pub returns-then-place-eq0 : goal.returns-then-place-eq0

@@ -1,5 +1,4 @@
 -- `text::test_line` meets its contract. Assumes nothing.
-use borrow.Author.Rules.{rules}
 use Rattle.text.proofs.test_line.Goals as goal
 
 pub returns-in-Yes : goal.returns-in-Yes

@@ -1,5 +1,4 @@
 -- `text::verdict_line` meets its contract. Assumes nothing.
-use borrow.Author.Rules.{rules}
 use Rattle.text.proofs.verdict_line.Goals as goal
 
 pub returns-in-Kept : goal.returns-in-Kept

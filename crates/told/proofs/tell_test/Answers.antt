@@ -1,5 +1,4 @@
 -- `told::tell_test` meets its contract. Assumes nothing.
-use borrow.Author.Rules.{rules}
 use mathlib.Core.Path.{refl}
 use Rattle.told.proofs.tell_test.Goals as goal
 

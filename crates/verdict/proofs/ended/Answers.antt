@@ -1,5 +1,4 @@
 -- `verdict::ended` meets its contract. Assumes nothing.
-use borrow.Author.Rules.{rules}
 use mathlib.Core.Path.{◌∙◌}
 use Rattle.links.proofs.Linking.{known}
 use Rattle.verdict.proofs.Broken.{ended_refused, ended_by_lem}

@@ -1,7 +1,5 @@
 -- `verdict::ended_by_lem` meets its contract. Assumes nothing.
-use borrow.Author.Rules.{rules}
 use mathlib.Core.Path.{refl}
-use borrow.Author.Tests.{not-true, not-false}
 use Rattle.verdict.proofs.Broken.{ended_as_lem}
 use Rattle.verdict.proofs.ended_by.Goals as goal
 

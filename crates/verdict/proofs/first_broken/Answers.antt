@@ -1,17 +1,10 @@
 -- `verdict::first_broken` meets its contract. Assumes nothing.
-use borrow.Author.Rules.{rules}
 use native.Mathlib.Omega.{arith}
-use mathlib.Core.Path.{◌≡◌, refl, sym, ◌∙◌}
-use borrow.Author.Tests.{not-true, not-false}
-use Prim.Native.Nat.{ℕ, ◌≤◌, ◌<◌, ◌-◌, min}
-use lib.ListN.{length, drop, get_or, length-map}
-use Rattle.plan.specs.Limits.{most_points, most_records}
+use mathlib.Core.Path.{refl, sym, ◌∙◌}
+use Prim.Native.Nat.{◌-◌}
 use Rattle.plan.specs.APlan.{records_of}
-use Rattle.plan.specs.ReplyNumbers.{check_of}
 use Rattle.plan.proofs.Accepted.{accepted_plan}
 use Rattle.plan.proofs.Records.{next_record, last_record}
-use Rattle.links.specs.Inside.{no_end, end_of}
-use Rattle.verdict.specs.Verdicts.{first_broken}
 use Rattle.verdict.proofs.Broken.{kept_from, day_of, by_minutes, broken_here, broken_turn, broken_end}
 use Rattle.verdict.proofs.first_broken.Goals as goal
 

@@ -1,18 +1,13 @@
 -- `verdict::first_broken` meets its contract. Assumes nothing.
-use borrow.Author.Rules.{rules}
-use native.Mathlib.Omega.{arith}
-use mathlib.Core.Path.{◌≡◌, refl, sym, ◌∙◌}
-use borrow.Author.Tests.{not-true, not-false}
+use mathlib.Core.Path.{◌≡◌}
 use Prim.Native.Nat.{ℕ, ◌≤◌, ◌<◌, ◌-◌, min}
-use lib.ListN.{length, drop, get_or, length-map}
+use lib.ListN.{length, drop, get_or}
 use Rattle.plan.specs.Limits.{most_points, most_records}
 use Rattle.plan.specs.APlan.{records_of}
 use Rattle.plan.specs.ReplyNumbers.{check_of}
-use Rattle.plan.proofs.Accepted.{accepted_plan}
-use Rattle.plan.proofs.Records.{next_record, last_record}
 use Rattle.links.specs.Inside.{no_end, end_of}
 use Rattle.verdict.specs.Verdicts.{first_broken}
-use Rattle.verdict.proofs.Broken.{kept_from, day_of, by_minutes, broken_here, broken_turn, broken_end}
+use Rattle.verdict.proofs.Broken.{day_of}
 use Rattle.verdict.proofs.first_broken.Given as goal
 
 abbrev pub invariant-loop-i : goal.invariant-loop-i

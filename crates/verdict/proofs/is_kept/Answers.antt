@@ -1,5 +1,4 @@
 -- `verdict::is_kept` meets its contract. Assumes nothing.
-use borrow.Author.Rules.{rules}
 use borrow.Author.Tests.{eq-eqb, ne_eqb}
 use mir.Syntax.{w32}
 use mir.ValLaws.{to_z-of_z}

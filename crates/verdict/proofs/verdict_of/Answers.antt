@@ -1,5 +1,4 @@
 -- `verdict::verdict_of` meets its contract. Assumes nothing.
-use borrow.Author.Rules.{rules}
 use mathlib.Core.Path.{refl, ◌∙◌}
 use Rattle.links.proofs.Linking.{known}
 use Rattle.verdict.proofs.Numbers.{verdict_numbered}

@@ -1,6 +1,5 @@
 -- `verdict::wait_kept` meets its contract. Assumes nothing.
 use native.Mathlib.Omega.{arith}
-use borrow.Author.Rules.{rules}
 use mathlib.Core.Path.{◌≡◌}
 use Prim.Native.Nat.{◌+◌, ◌-◌, min}
 use Rattle.verdict.proofs.wait_kept.Goals as goal

@@ -1,13 +1,9 @@
 -- `windows::least_high` meets its contract. Assumes nothing.
-use borrow.Author.Rules.{rules}
-use native.Mathlib.Omega.{arith}
-use mathlib.Core.Path.{◌≡◌, sym, ◌∙◌}
+use mathlib.Core.Path.{◌≡◌}
 use Prim.Native.Nat.{◌<◌, ◌≤◌, ◌^◌, min}
 use Rattle.points.specs.Sets.{count_of, members_of}
-use Rattle.points.proofs.Laws.{turn, first_member}
 use Rattle.lowhigh.specs.Rules.{never}
 use Rattle.windows.specs.Inside.{least_at}
-use Rattle.windows.proofs.Opening.{least_at_le, least_turn, least_end}
 use Rattle.windows.proofs.least_high.Given as goal
 
 abbrev pub invariant-loop-rest : goal.invariant-loop-rest

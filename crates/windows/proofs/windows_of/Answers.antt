@@ -1,5 +1,4 @@
 -- `windows::windows_of` meets its contract. Assumes nothing.
-use borrow.Author.Rules.{rules}
 use Rattle.plan.specs.APlan.{records_of}
 use Rattle.plan.proofs.Accepted.{accepted_plan}
 use Rattle.windows.proofs.Opening.{opens_here}

@@ -1,10 +1,8 @@
 -- `worst::day_of` meets its contract. Assumes nothing.
-use lib.ListN.{length-map}
 use Rattle.all_runs.proofs.Searching.{few_rows}
 use Rattle.worst.proofs.Answering.{day_refused_lem, day_past, few_records, all_ready, day_chooses, day_asks, day_found}
 use mathlib.Core.Path.{refl}
 use native.Mathlib.Omega.{arith}
-use borrow.Author.Rules.{rules}
 use Rattle.worst.proofs.day_of.Goals as goal
 
 pub returns-then-refused-ne-ACCEPTED : goal.returns-then-refused-ne-ACCEPTED

@@ -1,8 +1,5 @@
 -- `worst::worst_of` meets its contract. Assumes nothing.
-use lib.ListN.{length-map}
 use Rattle.worst.proofs.Answering.{worst_refused, few_records, all_ready, worst_found}
-use native.Mathlib.Omega.{arith}
-use borrow.Author.Rules.{rules}
 use Rattle.worst.proofs.worst_of.Goals as goal
 
 pub returns-then-refused-ne-ACCEPTED : goal.returns-then-refused-ne-ACCEPTED

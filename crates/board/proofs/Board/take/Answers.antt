@@ -1,9 +1,7 @@
 -- `board::Board::take` meets its contract. Assumes nothing.
 use native.Mathlib.Omega.{arith}
-use borrow.Author.Rules.{rules}
 use mathlib.Core.Path.{sym, ◌∙◌}
-use lib.ListN.{length-map}
-use borrow.Author.Tests.{eq-eqb, ne_eqb, not-true, not-false}
+use borrow.Author.Tests.{eq-eqb, ne_eqb}
 use Rattle.links.proofs.Linking.{known}
 use Rattle.board.specs.Events.{take_of}
 use Rattle.board.proofs.Opening.{given}

@@ -1,8 +1,6 @@
 -- `board::Board::take_all` meets its contract. Assumes nothing.
-use borrow.Author.Rules.{rules}
 use native.Mathlib.Omega.{arith}
 use mathlib.Core.Path.{◌∙◌}
-use borrow.Author.Tests.{not-true, not-false}
 use Rattle.links.proofs.Linking.{known}
 use Rattle.board.proofs.Streaming.{all_refused, all_unsound, all_taken}
 use Rattle.board.proofs.Linked.{sound_known}

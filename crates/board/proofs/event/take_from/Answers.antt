@@ -1,5 +1,4 @@
 -- `board::event::take_from` meets its contract. Assumes nothing.
-use borrow.Author.Rules.{rules}
 use mathlib.Core.Path.{ap}
 use Rattle.board.specs.ByWindows.{taken_of}
 use Rattle.board.proofs.event.take_from.Goals as goal

@@ -1,7 +1,5 @@
 -- `board::event::take_next` meets its contract. Assumes nothing.
 use native.Mathlib.Omega.{arith}
-use borrow.Author.Rules.{rules}
-use lib.ListN.{length-map}
 use Rattle.board.proofs.Opening.{given}
 use Rattle.board.proofs.ByPlan.{taken_known, taken_sound}
 use Rattle.board.proofs.Theorems.Soundness.{HeldBoard}

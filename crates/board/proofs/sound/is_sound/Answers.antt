@@ -1,5 +1,4 @@
 -- `board::sound::is_sound` meets its contract. Assumes nothing.
-use borrow.Author.Rules.{rules}
 use Rattle.plan.specs.APlan.{records_of}
 use Rattle.board.proofs.Linked.{sound_as}
 use Rattle.board.proofs.sound.is_sound.Goals as goal

@@ -1,5 +1,4 @@
 -- `board::standing::is_finished` meets its contract. Assumes nothing.
-use borrow.Author.Rules.{rules}
 use Rattle.board.proofs.standing.is_finished.Goals as goal
 
 pub returns : goal.returns

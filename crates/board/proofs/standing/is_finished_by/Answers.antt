@@ -1,5 +1,4 @@
 -- `board::standing::is_finished_by` meets its contract. Assumes nothing.
-use borrow.Author.Rules.{rules}
 use lib.Dec.{eqb}
 use Rattle.board.proofs.standing.is_finished_by.Goals as goal
 

@@ -1,13 +1,9 @@
 -- `board::stream::take_each` meets its contract. Assumes nothing.
-use borrow.Author.Rules.{rules}
 use native.Mathlib.Omega.{arith}
 use mathlib.Core.Path.{◌≡◌, refl, sym, ◌∙◌}
-use Prim.Native.Nat.{◌≤◌, ◌-◌, ◌+◌, ◌*◌}
-use lib.ListN.{length, take, drop}
+use Prim.Native.Nat.{◌-◌, ◌+◌, ◌*◌}
 use Rattle.plan.specs.Limits.{record_bytes}
-use Rattle.board.specs.Streams.{said_numbers}
-use Rattle.board.specs.InsideReplies.{Ready}
-use Rattle.board.proofs.Streaming.{Went, take_is_next, went_none, out_long, went_more, went_all}
+use Rattle.board.proofs.Streaming.{take_is_next, went_none, went_more, went_all}
 use Rattle.board.proofs.stream.take_each.Goals as goal
 
 pub loop-i-init : goal.loop-i-init

@@ -1,13 +1,11 @@
 -- `board::stream::take_each` meets its contract. Assumes nothing.
-use borrow.Author.Rules.{rules}
-use native.Mathlib.Omega.{arith}
-use mathlib.Core.Path.{◌≡◌, refl, sym, ◌∙◌}
-use Prim.Native.Nat.{◌≤◌, ◌-◌, ◌+◌, ◌*◌}
-use lib.ListN.{length, take, drop}
+use mathlib.Core.Path.{◌≡◌}
+use Prim.Native.Nat.{◌≤◌, ◌-◌, ◌*◌}
+use lib.ListN.{length}
 use Rattle.plan.specs.Limits.{record_bytes}
 use Rattle.board.specs.Streams.{said_numbers}
 use Rattle.board.specs.InsideReplies.{Ready}
-use Rattle.board.proofs.Streaming.{Went, take_is_next, went_none, out_long, went_more, went_all}
+use Rattle.board.proofs.Streaming.{Went}
 use Rattle.board.proofs.stream.take_each.Given as goal
 
 abbrev pub invariant-loop-i : goal.invariant-loop-i

@@ -1,7 +1,6 @@
 -- `buffers::ending::append` meets its contract. Assumes nothing.
-use borrow.Author.Rules.{rules}
 use mathlib.Core.Path.{refl, sym, ◌∙◌}
-use borrow.Author.Tests.{not-true, not-false, leb-true}
+use borrow.Author.Tests.{leb-true}
 use Rattle.buffers.proofs.Laying.{laid_paste}
 use Rattle.buffers.proofs.ending.append.Goals as goal
 

@@ -1,5 +1,4 @@
 -- `buffers::ending::behind` meets its contract. Assumes nothing.
-use borrow.Author.Rules.{rules}
 use Rattle.buffers.proofs.ending.behind.Goals as goal
 
 pub returns : goal.returns

@@ -1,5 +1,5 @@
 -- `feeding::begin_read` meets its contract. Assumes nothing.
-use Rattle.std.proofs.Common.{arith, rules}
+use Rattle.std.proofs.Common.{arith}
 use Rattle.feeding.proofs.Starting.{begun_refused, begun_read}
 use Rattle.feeding.proofs.begun.begin_read.Goals as goal
 

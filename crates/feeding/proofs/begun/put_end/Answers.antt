@@ -1,5 +1,5 @@
 -- `feeding::put_end` meets its contract. Assumes nothing.
-use Rattle.std.proofs.Common.{arith, rules}
+use Rattle.std.proofs.Common.{arith}
 use Rattle.feeding.proofs.Starting.{end_by_lem}
 use Rattle.feeding.proofs.begun.put_end.Goals as goal
 

@@ -1,6 +1,5 @@
 -- `feeding::put_first` meets its contract. Assumes nothing.
 use Rattle.std.proofs.Common.{arith, rules}
-use borrow.Author.Tests.{not-true, not-false}
 use Rattle.feeding.proofs.Starting.{first_none, first_full}
 use Rattle.feeding.proofs.begun.put_first.Goals as goal
 

@@ -1,6 +1,5 @@
 -- `feeding::put_tail` meets its contract. Assumes nothing.
 use Rattle.feeding.proofs.Starting.{tail_none, tail_some}
-use Rattle.std.proofs.Common.{rules}
 use Rattle.feeding.proofs.begun.put_tail.Goals as goal
 
 pub returns-then-left-eq0 : goal.returns-then-left-eq0

@@ -1,6 +1,5 @@
 -- `feeding::keep_part` meets its contract. Assumes nothing.
-use Rattle.std.proofs.Common.{sym, refl, ◌∙◌, rules}
-use borrow.Author.Tests.{not-true, not-false}
+use Rattle.std.proofs.Common.{sym, refl, ◌∙◌}
 use Rattle.history.proofs.Tests.{clash}
 use Rattle.feeding.proofs.ending.keep_part.Goals as goal
 

@@ -1,7 +1,7 @@
 -- `feeding::keep_plan` meets its contract. Assumes nothing.
 use Rattle.std.proofs.Common.{◌-◌, refl, rules}
 use Rattle.saying.proofs.Gone.{part_is}
-use Rattle.feeding.proofs.Fronting.{Kept, kept_none, kept_more, kept_mark, kept_all}
+use Rattle.feeding.proofs.Fronting.{kept_none, kept_more, kept_mark, kept_all}
 use Rattle.feeding.proofs.front.keep_plan.Goals as goal
 
 pub loop-i-init : goal.loop-i-init

@@ -1,7 +1,6 @@
 -- `feeding::keep_plan` meets its contract. Assumes nothing.
-use Rattle.std.proofs.Common.{◌-◌, refl, rules}
-use Rattle.saying.proofs.Gone.{part_is}
-use Rattle.feeding.proofs.Fronting.{Kept, kept_none, kept_more, kept_mark, kept_all}
+use Rattle.std.proofs.Common.{◌-◌}
+use Rattle.feeding.proofs.Fronting.{Kept}
 use Rattle.feeding.proofs.front.keep_plan.Given as goal
 
 abbrev pub invariant-loop-i : goal.invariant-loop-i

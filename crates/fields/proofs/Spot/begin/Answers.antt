@@ -1,6 +1,4 @@
 -- `fields::Spot::begin` meets its contract. Assumes nothing.
-use native.Mathlib.Omega.{arith}
-use borrow.Author.Rules.{rules}
 use Rattle.fields.proofs.Spot.begin.Goals as goal
 
 pub returns : goal.returns

@@ -1,8 +1,6 @@
 -- `fields::Spot::step` meets its contract. Assumes nothing.
 use Rattle.fields.proofs.Turning.{step_turned, step_cr, step_act}
 use mathlib.Core.Path.{sym, ◌∙◌}
-use native.Mathlib.Omega.{arith}
-use borrow.Author.Rules.{rules}
 use Rattle.fields.proofs.Spot.step.Goals as goal
 
 pub returns-then-self : goal.returns-then-self

@@ -1,5 +1,4 @@
 -- `filed::files::check_file` meets its contract. Assumes nothing.
-use borrow.Author.Rules.{rules}
 use Rattle.filed.proofs.files.check_file.Goals as goal
 
 pub returns : goal.returns

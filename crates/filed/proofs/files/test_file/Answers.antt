@@ -1,5 +1,4 @@
 -- `filed::files::test_file` meets its contract. Assumes nothing.
-use borrow.Author.Rules.{rules}
 use mathlib.Core.Path.{◌∙◌}
 use Rattle.vee.specs.TestOf.{test_of}
 use Rattle.vee.specs.declared.Answer.TheVariants.{Refused}

@@ -1,5 +1,4 @@
 -- `filed::files::worst_file` meets its contract. Assumes nothing.
-use borrow.Author.Rules.{rules}
 use mathlib.Core.Path.{◌∙◌}
 use Rattle.worst.specs.WorstMinute.{worst_of}
 use Rattle.worst.specs.declared.Worst.TheVariants.{Refused}

@@ -1,5 +1,4 @@
 -- `history::each::earlier` meets its contract. Assumes nothing.
-use borrow.Author.Rules.{rules}
 use mathlib.Core.Bool.{not, ◌&&◌, ◌||◌}
 use lib.Dec.{ltb}
 use Rattle.plan.specs.APlan.{link, is}

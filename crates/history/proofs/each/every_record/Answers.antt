@@ -1,12 +1,7 @@
 -- `history::each::every_record` meets its contract. Assumes nothing.
-use borrow.Author.Rules.{rules}
-use mathlib.Core.Path.{◌≡◌, sym, ◌∙◌}
-use borrow.Author.Tests.{not-true, not-false}
+use mathlib.Core.Path.{sym, ◌∙◌}
 use Prim.Native.Nat.{◌-◌}
-use lib.ListN.{length, length-map}
-use Rattle.plan.specs.Limits.{most_points}
-use Rattle.history.proofs.Walks.{Left, left_start, left_fails, left_turn, left_end}
-use Rattle.history.specs.Inside.{asked}
+use Rattle.history.proofs.Walks.{left_start, left_fails, left_turn, left_end}
 use Rattle.history.proofs.each.every_record.Goals as goal
 
 pub loop-i-init : goal.loop-i-init

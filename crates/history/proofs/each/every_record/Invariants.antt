@@ -1,11 +1,9 @@
 -- `history::each::every_record` meets its contract. Assumes nothing.
-use borrow.Author.Rules.{rules}
-use mathlib.Core.Path.{◌≡◌, sym, ◌∙◌}
-use borrow.Author.Tests.{not-true, not-false}
+use mathlib.Core.Path.{◌≡◌}
 use Prim.Native.Nat.{◌-◌}
-use lib.ListN.{length, length-map}
+use lib.ListN.{length}
 use Rattle.plan.specs.Limits.{most_points}
-use Rattle.history.proofs.Walks.{Left, left_start, left_fails, left_turn, left_end}
+use Rattle.history.proofs.Walks.{Left}
 use Rattle.history.specs.Inside.{asked}
 use Rattle.history.proofs.each.every_record.Given as goal
 

@@ -1,5 +1,4 @@
 -- `history::each::is_so` meets its contract. Assumes nothing.
-use borrow.Author.Rules.{rules}
 use Rattle.history.proofs.each.is_so.Goals as goal
 
 pub returns-in-InBounds : goal.returns-in-InBounds

@@ -1,5 +1,4 @@
 -- `history::each::is_so_by` meets its contract. Assumes nothing.
-use borrow.Author.Rules.{rules}
 use borrow.Author.Tests.{ne_eqb}
 use mathlib.Core.Path.{sym}
 use Rattle.history.proofs.Walks.{so_of_others}

@@ -1,6 +1,5 @@
 -- `history::each::minute_in` meets its contract. Assumes nothing.
 use native.Mathlib.Omega.{arith}
-use borrow.Author.Rules.{rules}
 use mathlib.Core.Path.{sym}
 use lib.ListN.{get_or-eq_default}
 use Rattle.history.proofs.each.minute_in.Goals as goal

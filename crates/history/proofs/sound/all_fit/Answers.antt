@@ -1,10 +1,7 @@
 -- `history::sound::all_fit` meets its contract. Assumes nothing.
-use borrow.Author.Rules.{rules}
 use native.Mathlib.Omega.{arith}
-use mathlib.Core.Path.{◌≡◌, refl, sym, ◌∙◌}
-use borrow.Author.Tests.{not-true, not-false}
-use Prim.Native.Nat.{◌≤◌, ◌-◌}
-use Rattle.points.specs.Sets.{from, every}
+use mathlib.Core.Path.{refl, sym, ◌∙◌}
+use Prim.Native.Nat.{◌-◌}
 use Rattle.plan.specs.Limits.{most_points}
 use Rattle.history.specs.History.{fits}
 use Rattle.history.proofs.Walks.{points_fails, points_turn, points_end}

@@ -1,5 +1,4 @@
 -- `history::sound::fits_at` meets its contract. Assumes nothing.
-use borrow.Author.Rules.{rules}
 use Rattle.history.proofs.sound.fits_at.Goals as goal
 
 pub returns : goal.returns

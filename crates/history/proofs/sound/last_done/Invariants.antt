@@ -1,13 +1,8 @@
 -- `history::sound::last_done` meets its contract. Assumes nothing.
-use borrow.Author.Rules.{rules}
-use native.Mathlib.Omega.{arith}
-use mathlib.Core.Path.{◌≡◌, sym, ◌∙◌}
-use mathlib.Core.Logic.{⊎_elim}
+use mathlib.Core.Path.{◌≡◌}
 use Prim.Native.Nat.{◌<◌, ◌^◌, max}
 use Rattle.points.specs.Sets.{count_of, members_of}
-use Rattle.points.proofs.Laws.{turn}
 use Rattle.history.specs.History.{largest}
-use Rattle.history.proofs.Walks.{largest_turn, largest_end}
 use Rattle.history.proofs.sound.last_done.Given as goal
 
 abbrev pub invariant-loop-rest : goal.invariant-loop-rest

@@ -1,5 +1,4 @@
 -- `hulls::lists::board_in` meets its contract. Assumes nothing.
-use borrow.Author.Rules.{rules}
 use Rattle.hulls.proofs.Taking.{board_is}
 use Rattle.hulls.proofs.lists.board_in.Goals as goal
 

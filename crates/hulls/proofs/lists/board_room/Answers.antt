@@ -1,6 +1,4 @@
 -- `hulls::lists::board_room` meets its contract. Assumes nothing.
-use borrow.Author.Rules.{rules}
-use lib.ListN.{length-map}
 use Rattle.hulls.proofs.Putting.{board_by}
 use Rattle.hulls.proofs.lists.board_room.Goals as goal
 

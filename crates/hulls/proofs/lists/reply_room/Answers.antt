@@ -1,11 +1,8 @@
 -- `hulls::lists::reply_room` meets its contract. Assumes nothing.
-use borrow.Author.Rules.{rules}
-use Prim.Native.Nat.{◌+◌, ◌*◌, ◌-◌, ◌≤◌}
-use mathlib.Core.Path.{◌≡◌, refl}
-use lib.ListN.{length, take, length-set, length-map}
-use Rattle.plan.specs.Limits.{most_points}
-use Rattle.hulls.specs.Rooms.{place_numbers, board_length}
-use Rattle.link_numbers.proofs.Putting.{Put, put_start, put_end}
+use Prim.Native.Nat.{◌-◌}
+use mathlib.Core.Path.{refl}
+use lib.ListN.{length-set}
+use Rattle.link_numbers.proofs.Putting.{put_start, put_end}
 use Rattle.hulls.proofs.Putting.{places_turn}
 use native.Mathlib.Omega.{arith}
 use Rattle.hulls.proofs.lists.reply_room.Goals as goal

@@ -1,13 +1,10 @@
 -- `hulls::lists::reply_room` meets its contract. Assumes nothing.
-use borrow.Author.Rules.{rules}
 use Prim.Native.Nat.{◌+◌, ◌*◌, ◌-◌, ◌≤◌}
-use mathlib.Core.Path.{◌≡◌, refl}
-use lib.ListN.{length, take, length-set, length-map}
+use mathlib.Core.Path.{◌≡◌}
+use lib.ListN.{length, take}
 use Rattle.plan.specs.Limits.{most_points}
 use Rattle.hulls.specs.Rooms.{place_numbers, board_length}
-use Rattle.link_numbers.proofs.Putting.{Put, put_start, put_end}
-use Rattle.hulls.proofs.Putting.{places_turn}
-use native.Mathlib.Omega.{arith}
+use Rattle.link_numbers.proofs.Putting.{Put}
 use Rattle.hulls.proofs.lists.reply_room.Given as goal
 
 abbrev pub invariant-loop-q : goal.invariant-loop-q

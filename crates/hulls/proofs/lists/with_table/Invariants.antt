@@ -1,13 +1,10 @@
 -- `hulls::lists::with_table` meets its contract. Assumes nothing.
-use borrow.Author.Rules.{rules}
-use Prim.Native.Nat.{◌+◌, ◌*◌, ◌-◌, ◌≤◌}
+use Prim.Native.Nat.{◌+◌, ◌-◌, ◌≤◌}
 use mathlib.Core.Path.{◌≡◌}
-use lib.ListN.{length, length-set}
+use lib.ListN.{length}
 use Rattle.plan.specs.Limits.{most_points}
-use lib.Seq.{paste, paste-zero}
-use Rattle.hulls.proofs.Putting.{table_turn}
+use lib.Seq.{paste}
 use Rattle.hulls.specs.Rooms.{board_length}
-use native.Mathlib.Omega.{arith}
 use Rattle.hulls.proofs.lists.with_table.Given as goal
 
 abbrev pub invariant-loop-q : goal.invariant-loop-q

@@ -1,8 +1,5 @@
 -- `kept::changes::bound_all` meets its contract. Assumes nothing.
-use native.Mathlib.Omega.{arith}
-use borrow.Author.Rules.{rules}
-use mathlib.Core.Path.{refl}
-use Rattle.neighbours.proofs.Walking.{Walking, walk_start, walk_turn, walk_end, step}
+use Rattle.neighbours.proofs.Walking.{Walking}
 use Rattle.kept.specs.Rooms.{bounded_at}
 use Rattle.kept.proofs.changes.bound_all.Given as goal
 

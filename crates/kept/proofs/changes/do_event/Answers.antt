@@ -1,5 +1,4 @@
 -- `kept::changes::do_event` meets its contract. Assumes nothing.
-use borrow.Author.Rules.{rules}
 use Rattle.kept.proofs.Steps.{event_by_lem}
 use Rattle.kept.proofs.changes.do_event.Goals as goal
 

@@ -1,6 +1,5 @@
 -- `kept::changes::do_one` meets its contract. Assumes nothing.
 use native.Mathlib.Omega.{arith}
-use borrow.Author.Rules.{rules}
 use Rattle.kept.proofs.Sets.{one_done, none_done}
 use Rattle.kept.proofs.changes.do_one.Goals as goal
 

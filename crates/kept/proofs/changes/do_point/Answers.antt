@@ -1,5 +1,4 @@
 -- `kept::changes::do_point` meets its contract. Assumes nothing.
-use borrow.Author.Rules.{rules}
 use Rattle.kept.proofs.changes.do_point.Goals as goal
 
 pub returns : goal.returns

@@ -1,11 +1,7 @@
 -- `kept::changes::do_set` meets its contract. Assumes nothing.
 use native.Mathlib.Omega.{arith}
-use borrow.Author.Rules.{rules}
-use mathlib.Core.Path.{◌≡◌, refl, ◌∙◌}
-use Prim.Native.Nat.{◌<◌, ◌^◌}
-use Rattle.points.specs.Sets.{members_of, count_of}
+use mathlib.Core.Path.{refl, ◌∙◌}
 use Rattle.points.proofs.Laws.{turn}
-use Rattle.kept.specs.Rooms.{all_done_by}
 use Rattle.kept.proofs.Sets.{set_turn, set_end}
 use Rattle.kept.proofs.changes.do_set.Goals as goal
 

@@ -1,12 +1,8 @@
 -- `kept::changes::do_set` meets its contract. Assumes nothing.
-use native.Mathlib.Omega.{arith}
-use borrow.Author.Rules.{rules}
-use mathlib.Core.Path.{◌≡◌, refl, ◌∙◌}
+use mathlib.Core.Path.{◌≡◌}
 use Prim.Native.Nat.{◌<◌, ◌^◌}
 use Rattle.points.specs.Sets.{members_of, count_of}
-use Rattle.points.proofs.Laws.{turn}
 use Rattle.kept.specs.Rooms.{all_done_by}
-use Rattle.kept.proofs.Sets.{set_turn, set_end}
 use Rattle.kept.proofs.changes.do_set.Given as goal
 
 abbrev pub invariant-loop-rest : goal.invariant-loop-rest

@@ -1,5 +1,4 @@
 -- `kept::changes::mark` meets its contract. Assumes nothing.
-use borrow.Author.Rules.{rules}
 use Rattle.kept.proofs.Steps.{marked_by_lem}
 use Rattle.kept.proofs.changes.mark.Goals as goal
 

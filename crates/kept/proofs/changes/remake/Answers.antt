@@ -1,5 +1,4 @@
 -- `kept::changes::remake` meets its contract. Assumes nothing.
-use borrow.Author.Rules.{rules}
 use Rattle.kept.proofs.changes.remake.Goals as goal
 
 pub returns : goal.returns

@@ -1,9 +1,7 @@
 -- `kept::changes::running_of` meets its contract. Assumes nothing.
 use native.Mathlib.Omega.{arith}
-use borrow.Author.Rules.{rules}
 use mathlib.Core.Path.{refl}
-use Rattle.neighbours.proofs.Walking.{Topping, top_start, top_turn, top_end, step}
-use Rattle.kept.specs.Rooms.{running_at}
+use Rattle.neighbours.proofs.Walking.{top_start, top_turn, top_end, step}
 use Rattle.kept.proofs.changes.running_of.Goals as goal
 
 pub loop-i-init : goal.loop-i-init

@@ -1,8 +1,5 @@
 -- `kept::changes::running_of` meets its contract. Assumes nothing.
-use native.Mathlib.Omega.{arith}
-use borrow.Author.Rules.{rules}
-use mathlib.Core.Path.{refl}
-use Rattle.neighbours.proofs.Walking.{Topping, top_start, top_turn, top_end, step}
+use Rattle.neighbours.proofs.Walking.{Topping}
 use Rattle.kept.specs.Rooms.{running_at}
 use Rattle.kept.proofs.changes.running_of.Given as goal
 

@@ -1,5 +1,4 @@
 -- `lines::state_by` meets its contract. Assumes nothing.
-use borrow.Author.Rules.{rules}
 use Rattle.lines.proofs.WholeLine.{nine_fit}
 use Rattle.lines.proofs.shapes.state_by.Goals as goal
 

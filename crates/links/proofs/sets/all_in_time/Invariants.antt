@@ -1,13 +1,8 @@
 -- `links::sets::all_in_time` meets its contract. Assumes nothing.
-use borrow.Author.Rules.{rules}
-use native.Mathlib.Omega.{arith}
-use mathlib.Core.Path.{◌≡◌, refl, sym, ◌∙◌}
-use borrow.Author.Tests.{not-true, not-false}
+use mathlib.Core.Path.{◌≡◌}
 use Prim.Native.Nat.{◌<◌, ◌^◌}
 use Rattle.points.specs.Sets.{members_of, every, count_of}
-use Rattle.points.proofs.Laws.{turn}
 use Rattle.links.specs.Inside.{timely_at}
-use Rattle.history.proofs.Walks.{members_fails, members_turn, members_end}
 use Rattle.links.proofs.sets.all_in_time.Given as goal
 
 abbrev pub invariant-loop-rest : goal.invariant-loop-rest

@@ -1,10 +1,7 @@
 -- `links::sets::all_running` meets its contract. Assumes nothing.
-use borrow.Author.Rules.{rules}
 use native.Mathlib.Omega.{arith}
-use mathlib.Core.Path.{◌≡◌, refl, sym, ◌∙◌}
+use mathlib.Core.Path.{refl, sym, ◌∙◌}
 use borrow.Author.Tests.{not-true, not-false}
-use Prim.Native.Nat.{◌<◌, ◌^◌}
-use Rattle.points.specs.Sets.{members_of, every, count_of}
 use Rattle.points.proofs.Laws.{turn}
 use Rattle.links.specs.Inside.{runs_at}
 use Rattle.history.proofs.Walks.{members_fails, members_turn, members_end}

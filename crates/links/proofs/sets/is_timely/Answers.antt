@@ -1,5 +1,4 @@
 -- `links::sets::is_timely` meets its contract. Assumes nothing.
-use borrow.Author.Rules.{rules}
 use Rattle.links.proofs.Setting.{timely_by}
 use Rattle.links.proofs.sets.is_timely.Goals as goal
 

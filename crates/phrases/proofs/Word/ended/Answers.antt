@@ -1,5 +1,4 @@
 -- `phrases::Word::ended` meets its contract. Assumes nothing.
-use borrow.Author.Rules.{rules}
 use Rattle.phrases.proofs.Turning.{ended_by_lem}
 use Rattle.phrases.proofs.Word.ended.Goals as goal
 

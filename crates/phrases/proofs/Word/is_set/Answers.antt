@@ -1,5 +1,4 @@
 -- `phrases::Word::is_set` meets its contract. Assumes nothing.
-use borrow.Author.Rules.{rules}
 use Rattle.phrases.proofs.Word.is_set.Goals as goal
 
 pub returns : goal.returns

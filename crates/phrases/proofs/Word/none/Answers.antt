@@ -1,5 +1,4 @@
 -- `phrases::Word::none` meets its contract. Assumes nothing.
-use borrow.Author.Rules.{rules}
 use Rattle.phrases.proofs.Word.none.Goals as goal
 
 pub returns : goal.returns

@@ -1,5 +1,4 @@
 -- `phrases::Word::pointed` meets its contract. Assumes nothing.
-use borrow.Author.Rules.{rules}
 use borrow.Author.Tests.{eq-eqb, ne_eqb}
 use Rattle.phrases.proofs.Word.pointed.Goals as goal
 

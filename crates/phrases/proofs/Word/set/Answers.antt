@@ -1,5 +1,4 @@
 -- `phrases::Word::set` meets its contract. Assumes nothing.
-use borrow.Author.Rules.{rules}
 use Rattle.phrases.proofs.Word.set.Goals as goal
 
 pub returns-then-is_none : goal.returns-then-is_none

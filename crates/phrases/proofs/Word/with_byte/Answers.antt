@@ -1,5 +1,4 @@
 -- `phrases::Word::with_byte` meets its contract. Assumes nothing.
-use borrow.Author.Rules.{rules}
 use Rattle.phrases.specs.Inside.{with_byte}
 use Rattle.phrases.proofs.Word.with_byte.Goals as goal
 

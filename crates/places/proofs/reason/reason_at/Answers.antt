@@ -1,5 +1,4 @@
 -- `places::reason::reason_at` meets its contract. Assumes nothing.
-use borrow.Author.Rules.{rules}
 use Rattle.places.proofs.reason.reason_at.Goals as goal
 
 pub returns : goal.returns

@@ -2,7 +2,7 @@
 use mir.Syntax.{w32}
 use mir.ValLaws.{to_z-of_z}
 use Rattle.places.proofs.Reasons.{reason_by}
-use borrow.Author.Rules.{rules, sfits_of}
+use borrow.Author.Rules.{sfits_of}
 use Rattle.places.proofs.reason.reason_of.Goals as goal
 
 pub returns : goal.returns

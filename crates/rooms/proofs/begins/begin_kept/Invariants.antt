@@ -1,11 +1,7 @@
 -- `rooms::begins::begin_kept` meets its contract. Assumes nothing.
-use native.Mathlib.Omega.{arith}
-use borrow.Author.Rules.{rules}
-use mathlib.Core.Path.{◌≡◌}
 use Prim.Native.Nat.{◌-◌, ◌≤◌}
 use Rattle.plan.specs.Limits.{most_records}
 use Rattle.kept.specs.Begins.{Begun}
-use Rattle.rooms.proofs.Counting.{begun_turn}
 use Rattle.rooms.proofs.begins.begin_kept.Given as goal
 
 abbrev pub invariant-loop-i : goal.invariant-loop-i

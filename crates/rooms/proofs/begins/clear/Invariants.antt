@@ -1,8 +1,7 @@
 -- `rooms::begins::clear` meets its contract. Assumes nothing.
-use borrow.Author.Rules.{rules}
 use Prim.Native.Nat.{◌-◌}
 use Rattle.plan.specs.Limits.{most_points}
-use Rattle.rooms.proofs.Counting.{Clearing, clearing_start, clearing_turn, clearing_end}
+use Rattle.rooms.proofs.Counting.{Clearing}
 use Rattle.rooms.proofs.begins.clear.Given as goal
 
 abbrev pub invariant-loop-q : goal.invariant-loop-q

@@ -1,5 +1,5 @@
 -- `rules::Seen::link` meets its contract. Assumes nothing.
-use borrow.Author.Rules.{rules, sfits_of}
+use borrow.Author.Rules.{sfits_of}
 use mir.Syntax.{w32}
 use mir.ValLaws.{to_z-of_z}
 use Rattle.rules.proofs.Seen.link.Goals as goal

@@ -1,5 +1,4 @@
 -- `rules::Seen::names` meets its contract. Assumes nothing.
-use borrow.Author.Rules.{rules}
 use Rattle.rules.proofs.Seen.names.Goals as goal
 
 pub returns : goal.returns

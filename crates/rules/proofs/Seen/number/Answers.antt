@@ -1,5 +1,4 @@
 -- `rules::Seen::number` meets its contract. Assumes nothing.
-use borrow.Author.Rules.{rules}
 use mathlib.Core.Path.{refl, ap}
 use Rattle.records.specs.Records.{kind_of, point, link, ordinary, wait}
 use Rattle.rules.specs.Inside.{told}

@@ -1,5 +1,4 @@
 -- `rules::Seen::read_one` meets its contract. Assumes nothing.
-use borrow.Author.Rules.{rules}
 use borrow.Author.Tests.{eq-eqb, ne_eqb}
 use mathlib.Core.Path.{sym, ◌∙◌}
 use Rattle.rules.specs.Inside.{one_of}

@@ -1,5 +1,4 @@
 -- `rules::Seen::with_record` meets its contract. Assumes nothing.
-use borrow.Author.Rules.{rules}
 use Rattle.rules.proofs.ByKind.{with_ordinary, with_wait, with_link, with_other}
 use Rattle.rules.proofs.Seen.with_record.Goals as goal
 

@@ -1,5 +1,4 @@
 -- `stream::front::read_front` meets its contract. Assumes nothing.
-use Rattle.std.proofs.Common.{rules}
 use Rattle.stream.proofs.Stages.{part_read}
 use Rattle.stream.proofs.front.read_front.Goals as goal
 

@@ -1,5 +1,5 @@
 -- `stream::front::shown` meets its contract. Assumes nothing.
-use Rattle.std.proofs.Common.{◌+◌, ◌*◌, rules, le-ltb, lt-ltb}
+use Rattle.std.proofs.Common.{◌+◌, ◌*◌, le-ltb, lt-ltb}
 use Rattle.plan.specs.Limits.{record_bytes, most_records}
 use Rattle.stream.proofs.front.shown.Goals as goal
 

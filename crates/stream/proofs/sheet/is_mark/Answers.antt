@@ -1,6 +1,5 @@
 -- `stream::sheet::is_mark` meets its contract. Assumes nothing.
-use Rattle.std.proofs.Common.{◌≡◌, ◌-◌, ◌≤◌, length, drop, refl, arith, rules}
-use Rattle.stream.specs.Sheets.{is_mark}
+use Rattle.std.proofs.Common.{◌-◌, refl, arith}
 use Rattle.stream.proofs.Marks.{mark_not, mark_more, mark_all_lem}
 use Rattle.stream.proofs.sheet.is_mark.Goals as goal
 

@@ -1,7 +1,6 @@
 -- `stream::sheet::is_mark` meets its contract. Assumes nothing.
-use Rattle.std.proofs.Common.{◌≡◌, ◌-◌, ◌≤◌, length, drop, refl, arith, rules}
+use Rattle.std.proofs.Common.{◌≡◌, ◌-◌, ◌≤◌, length, drop}
 use Rattle.stream.specs.Sheets.{is_mark}
-use Rattle.stream.proofs.Marks.{mark_not, mark_more, mark_all_lem}
 use Rattle.stream.proofs.sheet.is_mark.Given as goal
 
 abbrev pub invariant-loop-i : goal.invariant-loop-i

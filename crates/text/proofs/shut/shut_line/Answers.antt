@@ -1,5 +1,5 @@
 -- `text::shut_line` meets its contract. Assumes nothing.
-use borrow.Author.Rules.{rules, sfits_of}
+use borrow.Author.Rules.{sfits_of}
 use borrow.Author.Tests.{eq-eqb, ne_eqb}
 use mir.Syntax.{w32}
 use mir.ValLaws.{to_z-of_z}

@@ -1,5 +1,4 @@
 -- `text::signed` meets its contract. Assumes nothing.
-use borrow.Author.Rules.{rules}
 use mir.Syntax.{w32}
 use mir.ValLaws.{to_z-of_z}
 use Rattle.text.proofs.Signs.{not_below, below}

@@ -1,9 +1,7 @@
 -- `values::Seen::code` meets its contract. Assumes nothing.
 use Rattle.values.proofs.Answers.{pond_by}
-use borrow.Author.Tests.{eq-eqb, ne_eqb}
+use borrow.Author.Tests.{eq-eqb}
 use Rattle.values.specs.Inside.{pond_in}
-use native.Mathlib.Omega.{arith}
-use borrow.Author.Rules.{rules}
 use Rattle.values.proofs.Seen.code.Goals as goal
 
 pub returns-then-self-eq0 : goal.returns-then-self-eq0

@@ -1,6 +1,4 @@
 -- `values::Seen::is_code` meets its contract. Assumes nothing.
-use native.Mathlib.Omega.{arith}
-use borrow.Author.Rules.{rules}
 use Rattle.values.proofs.Seen.is_code.Goals as goal
 
 pub returns : goal.returns

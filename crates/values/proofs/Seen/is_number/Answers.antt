@@ -1,7 +1,5 @@
 -- `values::Seen::is_number` meets its contract. Assumes nothing.
 use Rattle.values.proofs.Answers.{number_by_lem}
-use native.Mathlib.Omega.{arith}
-use borrow.Author.Rules.{rules}
 use Rattle.values.proofs.Seen.is_number.Goals as goal
 
 pub returns : goal.returns

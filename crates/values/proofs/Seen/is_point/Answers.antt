@@ -1,7 +1,5 @@
 -- `values::Seen::is_point` meets its contract. Assumes nothing.
 use Rattle.values.specs.Inside.{point_in}
-use native.Mathlib.Omega.{arith}
-use borrow.Author.Rules.{rules}
 use Rattle.values.proofs.Seen.is_point.Goals as goal
 
 pub returns : goal.returns

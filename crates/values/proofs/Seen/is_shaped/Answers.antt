@@ -1,7 +1,5 @@
 -- `values::Seen::is_shaped` meets its contract. Assumes nothing.
 use Rattle.values.proofs.Answers.{shaped_by}
-use native.Mathlib.Omega.{arith}
-use borrow.Author.Rules.{rules}
 use Rattle.values.proofs.Seen.is_shaped.Goals as goal
 
 pub returns : goal.returns

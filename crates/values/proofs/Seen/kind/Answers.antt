@@ -1,7 +1,5 @@
 -- `values::Seen::kind` meets its contract. Assumes nothing.
 use Rattle.values.specs.Inside.{kind_in}
-use borrow.Author.Rules.{rules}
-use native.Mathlib.Omega.{arith}
 use Rattle.values.proofs.Seen.kind.Goals as goal
 
 pub returns-then-self : goal.returns-then-self

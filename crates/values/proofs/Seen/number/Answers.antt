@@ -6,8 +6,7 @@ use lib.Dec.{eqb}
 use mathlib.Core.Bool.{not}
 use Rattle.values.proofs.Tests.{both, nonzero}
 use Rattle.values.specs.Inside.{value_in}
-use native.Mathlib.Omega.{arith}
-use borrow.Author.Rules.{rules, sfits_of}
+use borrow.Author.Rules.{sfits_of}
 use Rattle.values.proofs.Seen.number.Goals as goal
 
 pub overflow_sub-n : goal.overflow_sub-n

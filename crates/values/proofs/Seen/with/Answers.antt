@@ -1,7 +1,5 @@
 -- `values::Seen::with` meets its contract. Assumes nothing.
 use Rattle.values.specs.Inside.{with}
-use native.Mathlib.Omega.{arith}
-use borrow.Author.Rules.{rules}
 use Rattle.values.proofs.Seen.with.Goals as goal
 
 pub returns : goal.returns

@@ -1,12 +1,9 @@
 -- `windows::asks::all_above` meets its contract. Assumes nothing.
-use borrow.Author.Rules.{rules}
 use native.Mathlib.Omega.{arith}
-use mathlib.Core.Path.{◌≡◌, refl, sym, ◌∙◌}
-use borrow.Author.Tests.{not-true, not-false}
-use Prim.Native.Nat.{ℕ, ◌+◌, ◌<◌, ◌^◌}
+use mathlib.Core.Path.{refl, sym, ◌∙◌}
+use Prim.Native.Nat.{ℕ, ◌+◌, ◌<◌}
 use lib.Dec.{ltb}
 use lib.ListN.{get_or}
-use Rattle.points.specs.Sets.{count_of, members_of, every}
 use Rattle.points.proofs.Laws.{turn, first_member}
 use Rattle.plan.specs.Limits.{farthest}
 use Rattle.history.proofs.Walks.{members_fails, members_turn, members_end}

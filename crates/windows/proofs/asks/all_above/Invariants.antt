@@ -1,15 +1,10 @@
 -- `windows::asks::all_above` meets its contract. Assumes nothing.
-use borrow.Author.Rules.{rules}
-use native.Mathlib.Omega.{arith}
-use mathlib.Core.Path.{◌≡◌, refl, sym, ◌∙◌}
-use borrow.Author.Tests.{not-true, not-false}
+use mathlib.Core.Path.{◌≡◌}
 use Prim.Native.Nat.{ℕ, ◌+◌, ◌<◌, ◌^◌}
 use lib.Dec.{ltb}
 use lib.ListN.{get_or}
 use Rattle.points.specs.Sets.{count_of, members_of, every}
-use Rattle.points.proofs.Laws.{turn, first_member}
 use Rattle.plan.specs.Limits.{farthest}
-use Rattle.history.proofs.Walks.{members_fails, members_turn, members_end}
 use Rattle.windows.proofs.asks.all_above.Given as goal
 
 abbrev pub invariant-loop-rest : goal.invariant-loop-rest

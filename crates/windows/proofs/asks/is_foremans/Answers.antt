@@ -1,6 +1,4 @@
 -- `windows::asks::is_foremans` meets its contract. Assumes nothing.
-use native.Mathlib.Omega.{arith}
-use borrow.Author.Rules.{rules}
 use mathlib.Core.Bool.{not, ◌&&◌}
 use lib.Dec.{ltb}
 use Rattle.windows.proofs.asks.is_foremans.Goals as goal

@@ -1,5 +1,4 @@
 -- `windows::asks::latest_of` meets its contract. Assumes nothing.
-use borrow.Author.Rules.{rules}
 use Rattle.windows.proofs.asks.latest_of.Goals as goal
 
 pub returns : goal.returns

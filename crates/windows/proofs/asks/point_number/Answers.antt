@@ -1,5 +1,4 @@
 -- `windows::asks::point_number` meets its contract. Assumes nothing.
-use borrow.Author.Rules.{rules}
 use Rattle.windows.proofs.Pointing.{not_open, too_early, too_late, none_given}
 use mathlib.Core.Path.{ap}
 use mathlib.Core.Bool.{not}

@@ -1,6 +1,5 @@
 -- `stream::Sheet::all_played` meets its contract. Assumes nothing.
 use Rattle.stream.proofs.Stages.{all_played_by}
-use Rattle.std.proofs.Common.{rules}
 use Rattle.stream.proofs.sheet.Sheet.all_played.Goals as goal
 
 pub returns : goal.returns

@@ -1,6 +1,5 @@
 -- `stream::sheet::Sheet::begun` meets its contract. Assumes nothing.
 use Rattle.stream.proofs.Stages.{begins_read, begins_refused}
-use Rattle.std.proofs.Common.{rules}
 use Rattle.stream.proofs.sheet.Sheet.begun.Goals as goal
 
 pub returns-then-reading-eq-ACCEPTED : goal.returns-then-reading-eq-ACCEPTED

@@ -1,5 +1,5 @@
 -- `stream::sheet::Sheet::ended` meets its contract. Assumes nothing.
-use Rattle.std.proofs.Common.{rules, eq-eqb}
+use Rattle.std.proofs.Common.{eq-eqb}
 use Rattle.stream.specs.Sheets.{ended_of}
 use Rattle.stream.proofs.Stages.{ended_tail, ended_quiet}
 use Rattle.stream.proofs.sheet.Sheet.ended.Goals as goal

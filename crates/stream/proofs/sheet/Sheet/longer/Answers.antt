@@ -1,5 +1,4 @@
 -- `stream::sheet::Sheet::longer` meets its contract. Assumes nothing.
-use Rattle.std.proofs.Common.{rules}
 use Rattle.stream.proofs.sheet.Sheet.longer.Goals as goal
 
 pub returns : goal.returns

@@ -1,6 +1,5 @@
 -- `stream::sheet::Sheet::new` meets its contract. Assumes nothing.
 use Rattle.plan.specs.ReplyNumbers.{read_with}
-use Rattle.std.proofs.Common.{rules}
 use Rattle.stream.proofs.sheet.Sheet.new.Goals as goal
 
 pub returns : goal.returns

@@ -1,5 +1,5 @@
 -- `stream::sheet::Sheet::next` meets its contract. Assumes nothing.
-use Rattle.std.proofs.Common.{sym, ◌∙◌, rules, eq-eqb, ne_eqb}
+use Rattle.std.proofs.Common.{sym, ◌∙◌, eq-eqb, ne_eqb}
 use Rattle.stream.specs.Sheets.{next_of}
 use Rattle.stream.proofs.sheet.Sheet.next.Goals as goal
 

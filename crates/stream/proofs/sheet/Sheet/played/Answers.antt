@@ -1,6 +1,5 @@
 -- `stream::sheet::Sheet::played` meets its contract. Assumes nothing.
 use Rattle.stream.proofs.Stages.{played_by}
-use Rattle.std.proofs.Common.{rules}
 use Rattle.stream.proofs.sheet.Sheet.played.Goals as goal
 
 pub returns : goal.returns

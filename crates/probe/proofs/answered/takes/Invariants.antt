@@ -1,6 +1,6 @@
--- `probe::calls::replies` is safe and ends. Assumes nothing.
+-- `probe::answered::takes` is safe and ends. Assumes nothing.
 use Rattle.std.proofs.Common.{◌-◌, ◌≤◌}
-use Rattle.probe.proofs.calls.replies.Given as goal
+use Rattle.probe.proofs.answered.takes.Given as goal
 
 abbrev pub invariant-loop-k : goal.invariant-loop-k
 invariant-loop-k l = l.k ≤ l.times

@@ -1,14 +1,8 @@
 -- `saying::put_events` meets its contract. Assumes nothing.
-use Rattle.std.proofs.Common.{◌-◌, sym, refl, ◌∙◌, inl, inr, ⊎_elim, rules, leb-false, leb-true}
-use borrow.Author.Tests.{not-true, not-false}
-use Rattle.saying.proofs.Gone.{part_is, Gone, gone_none, gone_more, gone_all}
-use Rattle.saying.proofs.taking.put_events.Reads as reads
-use Rattle.saying.proofs.taking.put_events.Lts as lts
-use Rattle.saying.proofs.taking.put_event.Reads as put-event-reads
-use Rattle.std.proofs.num.wrapping_add_u64.Reads as wrapping-add-u64-reads
-use Rattle.stream.proofs.fits.Reads as fits-reads
-use Rattle.saying.proofs.taking.put_events.Goals as goal
-use Rattle.saying.proofs.taking.put_events.Goals.{else-loop-i-test, then-loop-i-test+then-not-fits}
+use Rattle.std.proofs.Common.{◌-◌, sym, refl, ◌∙◌, inl, inr, rules, leb-false, leb-true}
+use Rattle.saying.proofs.Gone.{part_is, gone_none, gone_more, gone_all}
+use Rattle.saying.proofs.putting.put_events.Goals as goal
+use Rattle.saying.proofs.putting.put_events.Goals.{else-loop-i-test, then-loop-i-test+then-not-fits}
 
 pub loop-i-init : goal.loop-i-init
 loop-i-init c = gone_none _ _ _ _ _ _ _ _ _ _ _ _ _ refl (search rules) (search rules)

@@ -1,6 +1,6 @@
--- `probe::calls::verdicts` is safe and ends. Assumes nothing.
+-- `probe::answered::verdicts` is safe and ends. Assumes nothing.
 use Rattle.std.proofs.Common.{◌-◌, ◌≤◌}
-use Rattle.probe.proofs.calls.verdicts.Given as goal
+use Rattle.probe.proofs.answered.verdicts.Given as goal
 
 abbrev pub invariant-loop-k : goal.invariant-loop-k
 invariant-loop-k l = l.k ≤ l.times

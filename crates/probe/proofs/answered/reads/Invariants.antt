@@ -1,6 +1,6 @@
--- `probe::calls::reads` is safe and ends. Assumes nothing.
+-- `probe::answered::reads` is safe and ends. Assumes nothing.
 use Rattle.std.proofs.Common.{◌≡◌, ◌-◌, ◌≤◌, length}
-use Rattle.probe.proofs.calls.reads.Given as goal
+use Rattle.probe.proofs.answered.reads.Given as goal
 
 abbrev pub invariant-loop-k : goal.invariant-loop-k
 invariant-loop-k l = (l.k ≤ l.times) × (length l.bytes ≡ length l.initial.bytes)

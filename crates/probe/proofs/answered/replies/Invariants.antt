@@ -1,6 +1,6 @@
--- `probe::calls::takes` is safe and ends. Assumes nothing.
+-- `probe::answered::replies` is safe and ends. Assumes nothing.
 use Rattle.std.proofs.Common.{◌-◌, ◌≤◌}
-use Rattle.probe.proofs.calls.takes.Given as goal
+use Rattle.probe.proofs.answered.replies.Given as goal
 
 abbrev pub invariant-loop-k : goal.invariant-loop-k
 invariant-loop-k l = l.k ≤ l.times

@@ -8,7 +8,7 @@ use lib.Dec.{ltb}
 use lib.ListN.{length, take, drop, length-take}
 use lib.Seq.{take_at, take_all}
 use borrow.Author.Tests.{lt-ltb, le-ltb}
-use Rattle.plan.specs.Choice.{if◌then◌else◌}
+use Rattle.std.specs.Prelude.{if◌then◌else◌}
 use Rattle.plan.specs.Limits.{most_points, record_bytes}
 use Rattle.plan.specs.declared.Plan.{Plan}
 use Rattle.steps.specs.Found.{RoomsOf}

@@ -1,7 +1,6 @@
 -- What the functions on all projections of a plan laid out in rows ask and answer. A reader of the rules can leave this page out.
 -- Assumes nothing.
-use Rattle.std.specs.Prelude.{◌≡◌, List, ◌++◌, ℕ, ◌*◌, ◌≤◌, ltb, length, drop}
-use Rattle.plan.specs.Choice.{if◌then◌else◌}
+use Rattle.std.specs.Prelude.{◌≡◌, List, ◌++◌, ℕ, ◌*◌, ◌≤◌, ltb, length, drop, if◌then◌else◌}
 use Rattle.plan.specs.Limits.{record_bytes}
 use Rattle.plan.specs.APlan.{points, links, records_of}
 use Rattle.plan.specs.declared.Plan.{Plan}

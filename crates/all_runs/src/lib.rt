@@ -3,8 +3,7 @@
 
 #![tactic(auto)]
 
-ghost use Rattle.std.specs.Prelude.{◌≡◌, ◌++◌, ◌*◌, ◌≤◌, ltb, length, take, drop};
-ghost use Rattle.plan.specs.Choice.{if◌then◌else◌};
+ghost use Rattle.std.specs.Prelude.{◌≡◌, ◌++◌, ◌*◌, ◌≤◌, ltb, length, take, drop, if◌then◌else◌};
 ghost use Rattle.plan.specs.Limits.{most_points, record_bytes};
 ghost use Rattle.all_runs.specs.Coded.{put, DayAsks, DayAs, WorstAsks, worse_found, FoundOf};
 

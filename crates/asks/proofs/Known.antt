@@ -9,7 +9,7 @@ use mathlib.Core.Logic.{by_cases}
 use lib.Dec.{eqb, ltb}
 use lib.ListN.{length}
 use borrow.Author.Tests.{le-ltb, ne_eqb, ltb-true}
-use Rattle.numbers.specs.Choice.{if◌then◌else◌}
+use Rattle.std.specs.Prelude.{if◌then◌else◌}
 use Rattle.numbers.specs.Fits.{All, IsByte}
 use Rattle.values.specs.Values.{same, is_empty, all_digits, value_from, unsigned, size_of}
 use Rattle.values.specs.Inside.{fresh, with_all}

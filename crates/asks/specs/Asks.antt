@@ -1,7 +1,6 @@
 -- The words of the program `desk`, behind its name: a verb, and what it is asked. "Words that are numbers are decimal digits,
 -- zeros in front allowed; what does not fit 32 bits is wrong usage." Words are bytes, ASCII codes. Assumes nothing.
-use Rattle.std.specs.Prelude.{Bool, true, false, ◌&&◌, not, List, [], ◌∷◌, ℕ, ◌^◌, eqb, ltb}
-use Rattle.numbers.specs.Choice.{if◌then◌else◌}
+use Rattle.std.specs.Prelude.{Bool, true, false, ◌&&◌, not, List, [], ◌∷◌, ℕ, ◌^◌, eqb, ltb, if◌then◌else◌}
 use Rattle.values.specs.Values.{same, is_empty, all_digits, value_from}
 use Rattle.asks.specs.declared.Asked.{Asked}
 use Rattle.asks.specs.declared.Asked.TheVariants.{Test, Worst, Day, Import, Close, Lighter, Pack, Listing, Explain, Calendar, Nothing}
@@ -46,14 +45,14 @@ is_count f = not (is_empty f) && (all_digits f && ltb (value_from 0 f) (2 ^ 32))
 unfoldable pub alone : List ℕ → Asked
 alone f =
     if same f test_verb then Test
-    else if same f worst_verb then Worst
-    else if same f import_verb then Import
-    else if same f close_verb then Close
-    else if same f lighter_verb then Lighter
-    else if same f pack_verb then Pack
-    else if same f list_verb then Listing
-    else if same f explain_verb then Explain
-    else Nothing
+    else (if same f worst_verb then Worst
+    else (if same f import_verb then Import
+    else (if same f close_verb then Close
+    else (if same f lighter_verb then Lighter
+    else (if same f pack_verb then Pack
+    else (if same f list_verb then Listing
+    else (if same f explain_verb then Explain
+    else Nothing)))))))
 
 -- a verb and a number
 unfoldable pub counted : List ℕ → List ℕ → Asked
@@ -71,6 +70,6 @@ number_of f = if is_count f then record { given = true; value = value_from 0 f }
 unfoldable pub asked_of : ℕ → List ℕ → List ℕ → Asked
 asked_of n f g =
     if eqb n 2 then alone f
-    else if eqb n 3 then counted f g
-    else if eqb n 7 then dated f
-    else Nothing
+    else (if eqb n 3 then counted f g
+    else (if eqb n 7 then dated f
+    else Nothing))

@@ -8,7 +8,7 @@ use native.Mathlib.Omega.{arith}
 use lib.ListN.{get_or}
 use Rattle.points.specs.Sets.{member, members_of, passing, from}
 use Rattle.points.proofs.Laws.{count_le}
-use Rattle.plan.specs.Choice.{if◌then◌else◌}
+use Rattle.std.specs.Prelude.{if◌then◌else◌}
 use Rattle.plan.specs.Limits.{most_points}
 use Rattle.plan.specs.APlan.{records_of}
 use Rattle.plan.specs.declared.Plan.{Plan}

@@ -9,7 +9,7 @@ use lib.Dec.{lit<, eqb, ltb}
 use lib.ListN.{get_or}
 use Rattle.points.specs.Sets.{member, members_of, passing, from, every}
 use Rattle.points.proofs.Laws.{member_empty, same_members}
-use Rattle.plan.specs.Choice.{if◌then◌else◌}
+use Rattle.std.specs.Prelude.{if◌then◌else◌}
 use Rattle.plan.specs.Limits.{most_points, farthest}
 use Rattle.plan.specs.APlan.{some}
 use Rattle.records.specs.declared.Record.{Record}

@@ -9,7 +9,7 @@ use lib.Dec.{eqb, ltb, leb}
 use lib.ListN.{length, get_or}
 use borrow.Author.Tests.{eqb-true, eqb-false, ltb-true, lt-ltb, eq-eqb, ne_eqb}
 use Rattle.points.specs.Sets.{member, members_of, from, passing, every, below_of, subset_of}
-use Rattle.plan.specs.Choice.{if◌then◌else◌}
+use Rattle.std.specs.Prelude.{if◌then◌else◌}
 use Rattle.plan.specs.Limits.{most_points, farthest, record_bytes}
 use Rattle.plan.specs.APlan.{points, watched, link_to}
 use Rattle.plan.specs.PlanFile.{word_at}
@@ -47,8 +47,8 @@ module _ (rs : List Record) (b : Board) (w : Windows) (ws : WindowsOf rs b w) wh
       last = if not (eqb w.opens 0) && ltb (latest rs b) t then 30 else 0
 
       go : (k : Bool) → (k || ltb p most_points) ≡ true
-          → (if not (k || member w.opens p) then 28 else if not (k || leb (get_or w.lows p 0) t) then 29 else last)
-          ≡ (if not (k || is_open rs b p) then 28 else if not (k || leb (low rs b p) t) then 29 else last)
+          → (if not (k || member w.opens p) then 28 else (if not (k || leb (get_or w.lows p 0) t) then 29 else last))
+          ≡ (if not (k || is_open rs b p) then 28 else (if not (k || leb (low rs b p) t) then 29 else last))
       go true x = refl
       go false x =
           let q = ltb-true p most_points x in
@@ -111,7 +111,7 @@ pub taken_formed : (rs : List Record) (b : Board) (s : List ℕ) → event_numbe
 unfolding event_number
 taken_formed rs b s = go (finished rs b) (stuck rs b) (well_formed rs s) _
   where
-    go : (x y z : Bool) (n : ℕ) → (if x then 21 else if y then 22 else if not z then 23 else n) ≡ 0 → z ≡ true
+    go : (x y z : Bool) (n : ℕ) → (if x then 21 else (if y then 22 else (if not z then 23 else n))) ≡ 0 → z ≡ true
     go true y z n e = absurd (omega arith)
     go false true z n e = absurd (omega arith)
     go false false true n e = refl

@@ -2,9 +2,8 @@
 -- 28, and the board after an event that is taken. rs are the plan's records, b the board before the event, s the event's bytes. What the bytes say is said in
 -- `Fields` of `events`, and 25 to 27 by the done set and the minutes in `Ending` of `links` and `History` of `history`.
 -- Assumes nothing.
-use Rattle.std.specs.Prelude.{Bool, not, ◌&&◌, ◌||◌, List, [], ◌∷◌, ◌++◌, ℕ, eqb, ltb, leb, set}
+use Rattle.std.specs.Prelude.{Bool, not, ◌&&◌, ◌||◌, List, [], ◌∷◌, ◌++◌, ℕ, eqb, ltb, leb, set, if◌then◌else◌}
 use Rattle.points.specs.Sets.{members_of, with_of, every}
-use Rattle.plan.specs.Choice.{if◌then◌else◌}
 use Rattle.plan.specs.APlan.{points, records_of}
 use Rattle.plan.specs.ReplyNumbers.{check_of}
 use Rattle.records.specs.declared.Record.{Record}
@@ -41,16 +40,16 @@ not_late b t ended l = history.not_late b.done b.minutes t ended l
 unfoldable pub event_number : List Record → Board → List ℕ → ℕ
 event_number rs b s =
     if finished rs b then 21
-    else if stuck rs b then 22
-    else if not (well_formed rs s) then 23
-    else if ltb (event_minute s) b.clock then 24
-    else if not (every (ends_running rs b) (members_of (event_set s))) then 25
-    else if not (every (in_time rs b (event_minute s)) (members_of (event_set s))) then 26
-    else if not (each (not_late b (event_minute s) (event_set s)) rs) then 27
-    else if not (eqb (event_point s) no_point || is_open rs b (event_point s)) then 28
-    else if not (eqb (event_point s) no_point || leb (low rs b (event_point s)) (event_minute s)) then 29
-    else if some_open rs b && ltb (latest rs b) (event_minute s) then 30
-    else 0
+    else (if stuck rs b then 22
+    else (if not (well_formed rs s) then 23
+    else (if ltb (event_minute s) b.clock then 24
+    else (if not (every (ends_running rs b) (members_of (event_set s))) then 25
+    else (if not (every (in_time rs b (event_minute s)) (members_of (event_set s))) then 26
+    else (if not (each (not_late b (event_minute s) (event_set s)) rs) then 27
+    else (if not (eqb (event_point s) no_point || is_open rs b (event_point s)) then 28
+    else (if not (eqb (event_point s) no_point || leb (low rs b (event_point s)) (event_minute s)) then 29
+    else (if some_open rs b && ltb (latest rs b) (event_minute s) then 30
+    else 0)))))))))
 
 -- the record beside the number: beside 28 the one that keeps the event's point shut, none where the point is watched or done;
 -- none beside any other number
@@ -80,6 +79,6 @@ taken n i b = record { number = n; place = i; board = b }
 unfoldable pub take_of : Plan → Board → List ℕ → Taken
 take_of p b s =
     if not (eqb (check_of p).number 0) then taken (check_of p).number (check_of p).place b
-    else if not (sound (records_of p) b) then taken 20 0 b
-    else if not (eqb (event_number (records_of p) b s) 0) then taken (event_number (records_of p) b s) (event_record (records_of p) b s) b
-    else taken 0 0 (board_after b s)
+    else (if not (sound (records_of p) b) then taken 20 0 b
+    else (if not (eqb (event_number (records_of p) b s) 0) then taken (event_number (records_of p) b s) (event_record (records_of p) b s) b
+    else taken 0 0 (board_after b s)))

@@ -1,7 +1,6 @@
 -- What the crate's own functions keep of a plan, and what they answer of it: no reader of the open functions needs this
 -- page. Assumes nothing.
-use Rattle.std.specs.Prelude.{not, ◌&&◌, ◌||◌, List, ℕ, eqb, ltb, leb}
-use Rattle.plan.specs.Choice.{if◌then◌else◌}
+use Rattle.std.specs.Prelude.{not, ◌&&◌, ◌||◌, List, ℕ, eqb, ltb, leb, if◌then◌else◌}
 use Rattle.records.specs.declared.Record.{Record}
 use Rattle.board.specs.Windows.{is_open, low, some_open}
 use Rattle.board.specs.Stuck.{latest}
@@ -13,9 +12,9 @@ use Rattle.board.specs.declared.Taken.{Taken}
 unfoldable pub point_number : List Record → Board → ℕ → ℕ → ℕ
 point_number rs b t p =
     if not (eqb p no_point || is_open rs b p) then 28
-    else if not (eqb p no_point || leb (low rs b p) t) then 29
-    else if some_open rs b && ltb (latest rs b) t then 30
-    else 0
+    else (if not (eqb p no_point || leb (low rs b p) t) then 29
+    else (if some_open rs b && ltb (latest rs b) t then 30
+    else 0))
 
 -- one event on a sound board of an accepted plan
 unfoldable pub taken_next : List Record → Board → List ℕ → Taken

@@ -1,8 +1,7 @@
 -- A stream of events on one plan: each goes on from the board that the one before handed back. Document 01, "The printing
 -- program", needs of each its number, and the clock and the done points of the board handed back; document 02, §6, the record
 -- beside the number. Assumes nothing.
-use Rattle.std.specs.Prelude.{Bool, not, List, [], ◌∷◌, ◌++◌, ℕ, zero, suc, ◌*◌, ◌/◌, min, eqb, length, take, drop}
-use Rattle.plan.specs.Choice.{if◌then◌else◌}
+use Rattle.std.specs.Prelude.{Bool, not, List, [], ◌∷◌, ◌++◌, ℕ, zero, suc, ◌*◌, ◌/◌, min, eqb, length, take, drop, if◌then◌else◌}
 use Rattle.plan.specs.Limits.{record_bytes}
 use Rattle.plan.specs.APlan.{records_of}
 use Rattle.plan.specs.ReplyNumbers.{check_of}
@@ -43,12 +42,12 @@ many_in s room = min (length s / record_bytes) (length room / said_numbers)
 unfoldable pub take_all_of : Plan → Board → List ℕ → List ℕ → Taken
 take_all_of p b s room =
     if not (eqb (check_of p).number 0) then taken (check_of p).number (check_of p).place b
-    else if not (sound (records_of p) b) then taken 20 0 b
-    else taken 0 0 (board_after_all p b (events_in (many_in s room) s))
+    else (if not (sound (records_of p) b) then taken 20 0 b
+    else taken 0 0 (board_after_all p b (events_in (many_in s room) s)))
 
 -- what the room holds then: for a refusal what it held, else what is said of each event, and the rest as it was
 unfoldable pub said_all_of : Plan → Board → List ℕ → List ℕ → List ℕ
 said_all_of p b s room =
     if not (eqb (check_of p).number 0) then room
-    else if not (sound (records_of p) b) then room
-    else said_of p b (events_in (many_in s room) s) ++ drop (said_numbers * many_in s room) room
+    else (if not (sound (records_of p) b) then room
+    else said_of p b (events_in (many_in s room) s) ++ drop (said_numbers * many_in s room) room)

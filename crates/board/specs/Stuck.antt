@@ -1,8 +1,7 @@
 -- Document 01, "Board, windows, replies": when a board is finished or stuck, and the latest minute of an offer. Assumes
 -- nothing.
-use Rattle.std.specs.Prelude.{Bool, not, List, ℕ, ◌-◌, eqb}
+use Rattle.std.specs.Prelude.{Bool, not, List, ℕ, ◌-◌, eqb, if◌then◌else◌}
 use Rattle.points.specs.Sets.{below_of}
-use Rattle.plan.specs.Choice.{if◌then◌else◌}
 use Rattle.plan.specs.Limits.{farthest}
 use Rattle.plan.specs.APlan.{some, points}
 use Rattle.records.specs.declared.Record.{Record}

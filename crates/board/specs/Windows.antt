@@ -2,9 +2,8 @@
 -- are the plan's records, b the board. What a record says of q by the clock, the done set and the minutes is said in `Rules` of `lowhigh`.
 -- High and H can be below zero, so both are kept 100,000 up; where there is none, they are past every minute. Assumes
 -- nothing.
-use Rattle.std.specs.Prelude.{Bool, not, ◌||◌, List, [], ◌∷◌, ℕ, ◌+◌, min, ltb}
+use Rattle.std.specs.Prelude.{Bool, not, ◌||◌, List, [], ◌∷◌, ℕ, ◌+◌, min, ltb, if◌then◌else◌}
 use Rattle.points.specs.Sets.{from, every}
-use Rattle.plan.specs.Choice.{if◌then◌else◌}
 use Rattle.plan.specs.Limits.{most_points, farthest}
 use Rattle.records.specs.declared.Record.{Record}
 use Rattle.lowhigh.specs.Rules as lowhigh

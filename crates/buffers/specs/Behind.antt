@@ -1,7 +1,6 @@
 -- Lines behind lines in a buffer. Assumes nothing.
-use Rattle.std.specs.Prelude.{List, ℕ, ◌+◌, leb, length}
+use Rattle.std.specs.Prelude.{List, ℕ, ◌+◌, leb, length, if◌then◌else◌}
 use Rattle.std.proofs.Math.Seq.{paste}
-use Rattle.numbers.specs.Choice.{if◌then◌else◌}
 
 -- where the bytes bs end behind the first n of a buffer; they stay out if they do not fit
 abbrev pub end_of : List ℕ → ℕ → List ℕ → ℕ

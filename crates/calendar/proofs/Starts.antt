@@ -10,7 +10,7 @@ use lib.Dec.{eqb}
 use lib.ListN.{get_or}
 use Rattle.points.specs.Sets.{below_of}
 use Rattle.points.proofs.Laws.{below_fits, count_le}
-use Rattle.plan.specs.Choice.{if◌then◌else◌}
+use Rattle.std.specs.Prelude.{if◌then◌else◌}
 use Rattle.plan.specs.APlan.{points, records_of}
 use Rattle.plan.specs.ReplyNumbers.{check_of, refusal, accepted}
 use Rattle.plan.specs.declared.Plan.{Plan}
@@ -36,7 +36,7 @@ unfolding ended_of
 ended_well p b e = go (eqb (check_of p).number 0) refl (sound (records_of p) b) (finished (records_of p) b) e (ended_accepted p b e)
   where
     go : (k : Bool) → eqb (check_of p).number 0 ≡ k → (s f : Bool)
-        → (if not k then check_of p else if not s then refusal 20 0 else if not f then refusal 31 0 else accepted).number ≡ 0
+        → (if not k then check_of p else (if not s then refusal 20 0 else (if not f then refusal 31 0 else accepted))).number ≡ 0
         → (check_of p).number ≡ 0 → (s ≡ true) × (f ≡ true)
     go true k true true h z = (refl, refl)
     go true k true false h z = absurd (omega (arith, h))

@@ -1,9 +1,8 @@
 -- Document 02, §10, "Sheets in the crews' calendars": the text of a finished board, byte for byte, and what writing it
 -- answers. The lines of an event are said in `Event` of `moments`, the date that a minute shows in `Gregorian` of `dates`,
 -- the refusals 20 and 31 in `Verdicts` of `verdict`. Assumes nothing.
-use Rattle.std.specs.Prelude.{not, List, [], ◌++◌, ℕ, zero, suc, ◌+◌, eqb, ltb, length, drop, get_or}
+use Rattle.std.specs.Prelude.{not, List, [], ◌++◌, ℕ, zero, suc, ◌+◌, eqb, ltb, length, drop, get_or, if◌then◌else◌}
 use Rattle.values.specs.Ascii.{ascii}
-use Rattle.plan.specs.Choice.{if◌then◌else◌}
 use Rattle.plan.specs.APlan.{points, blank, records_of}
 use Rattle.plan.specs.declared.Plan.{Plan}
 use Rattle.records.specs.declared.Record.{Record}
@@ -67,9 +66,9 @@ answer n i k = record { number = n; place = i; length = k }
 unfoldable pub calendar_of : Plan → Board → Stamp → List ℕ → Calendar
 calendar_of p b origin out =
     if not (eqb (ended_of p b).number 0) then answer (ended_of p b).number (ended_of p b).place 0
-    else if not (is_origin origin) then answer 51 0 0
-    else if ltb (length out) (length (calendar_text (records_of p) b origin)) then answer 52 0 0
-    else answer 0 0 (length (calendar_text (records_of p) b origin))
+    else (if not (is_origin origin) then answer 51 0 0
+    else (if ltb (length out) (length (calendar_text (records_of p) b origin)) then answer 52 0 0
+    else answer 0 0 (length (calendar_text (records_of p) b origin))))
 
 -- the buffer after that: a refusal leaves it "untouched, as do bytes past an accepted text"
 unfoldable pub written_of : Plan → Board → Stamp → List ℕ → List ℕ

@@ -15,7 +15,7 @@ use lib.Seq.{get_or-set_same, get_or-set_other}
 use borrow.Author.Tests.{eqb-true, eqb-false, eq-eqb, ltb-true, ltb-false, lt-ltb, le-ltb, leb-true, le-leb, not-true, not-false}
 use Rattle.points.specs.Sets.{member, with_of, without_of, count_of, below_of, from, every}
 use Rattle.points.proofs.Laws.{Turn, member_empty, member_past, member_small, member_below, below_fits, same_members, member_with, with_fits, with_past, with_count, member_without, count_le}
-use Rattle.plan.specs.Choice.{if◌then◌else◌}
+use Rattle.std.specs.Prelude.{if◌then◌else◌}
 use Rattle.plan.specs.Limits.{most_points}
 use Rattle.history.specs.History.{minute_in}
 use Rattle.history.proofs.Tests.{clash, both, and_both, either, unless, as_unless}

@@ -1,8 +1,7 @@
 -- What the functions behind the numbers compute: a slot for each number, 1 has the first. No reader of the rules needs this
 -- page. Assumes nothing.
-use Rattle.std.specs.Prelude.{Bool, not, ◌&&◌, ◌||◌, List, ℕ, suc, ◌-◌, ◌%◌, eqb, ltb, leb, get_or}
+use Rattle.std.specs.Prelude.{Bool, not, ◌&&◌, ◌||◌, List, ℕ, suc, ◌-◌, ◌%◌, eqb, ltb, leb, get_or, if◌then◌else◌}
 use Rattle.points.specs.Sets.{member, count_of, below_of, from, every}
-use Rattle.plan.specs.Choice.{if◌then◌else◌}
 use Rattle.plan.specs.Limits.{most_points}
 
 -- the slot of a number

@@ -1,7 +1,6 @@
 -- Document 01, "Haul to one pond": its starred cases, 1 to 10, as one table of questions and what the rules say to each.
 -- Assumes nothing.
-use Rattle.std.specs.Prelude.{◌≡◌, List, [], ◌∷◌, ◌++◌, ℕ, zero, suc, ◌-◌, ltb, get_or, length, replicate}
-use Rattle.plan.specs.Choice.{if◌then◌else◌}
+use Rattle.std.specs.Prelude.{◌≡◌, List, [], ◌∷◌, ◌++◌, ℕ, zero, suc, ◌-◌, ltb, get_or, length, replicate, if◌then◌else◌}
 use Rattle.plan.specs.Limits.{most_points}
 use Rattle.plan.specs.APlan.{plan_of, points, records_of}
 use Rattle.plan.specs.Haul.{haul, haul_with, a_wait, circle}

@@ -12,7 +12,7 @@ use lib.IntN.{sub_ℕ}
 use lib.ListN.{length, get_or, set, take, replicate, length-append, length-take}
 use lib.Seq.{set_at, append_snoc, take-suc, take_all, get_or-take, length-take-le}
 use borrow.Author.Tests.{ltb-true, lt-ltb, le-ltb}
-use Rattle.plan.specs.Choice.{if◌then◌else◌}
+use Rattle.std.specs.Prelude.{if◌then◌else◌}
 use Rattle.plan.specs.Limits.{most_records, farthest}
 use Rattle.plan.specs.APlan.{one, some, blank, records_of, plan_of}
 use Rattle.plan.specs.PlanFile.{signed_of}

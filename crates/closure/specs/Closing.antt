@@ -1,9 +1,8 @@
 -- Document 02, §12, "Plans without watched steps": the plan that is made of a plan with no links and no waits, in the words of the
 -- request. The distances are those that the plan test computes (`TestOf` of `vee`): an entry is the distance and `bias`, or `none`
 -- where no path joins the two points. Assumes nothing.
-use Rattle.std.specs.Prelude.{Bool, not, ◌&&◌, ◌||◌, List, [], ◌∷◌, ◌++◌, ℕ, zero, suc, ◌+◌, eqb, ltb, take}
+use Rattle.std.specs.Prelude.{Bool, not, ◌&&◌, ◌||◌, List, [], ◌∷◌, ◌++◌, ℕ, zero, suc, ◌+◌, eqb, ltb, take, if◌then◌else◌}
 use Rattle.std.proofs.Math.IntN.{sub_ℕ}
-use Rattle.plan.specs.Choice.{if◌then◌else◌}
 use Rattle.plan.specs.Limits.{farthest}
 use Rattle.plan.specs.APlan.{link, wait, is, some, points, records_of}
 use Rattle.plan.specs.ReplyNumbers.{refusal, refused, taken, check_of}
@@ -63,7 +62,7 @@ some_too_far n f = among n (λ X. among n (λ Y. too_far (f X Y)))
 unfoldable pub close_of : Plan → Reading
 close_of p =
     if not (eqb (check_of p).number 0) then refused (check_of p)
-    else if has_steps (records_of p) then refused (refusal 61 0)
-    else if has_cycle (points (records_of p)) (distances_of (records_of p)) then refused (refusal 62 0)
-    else if some_too_far (points (records_of p)) (entry (distances_of (records_of p))) then refused (refusal 63 0)
-    else taken (made_of (records_of p))
+    else (if has_steps (records_of p) then refused (refusal 61 0)
+    else (if has_cycle (points (records_of p)) (distances_of (records_of p)) then refused (refusal 62 0)
+    else (if some_too_far (points (records_of p)) (entry (distances_of (records_of p))) then refused (refusal 63 0)
+    else taken (made_of (records_of p)))))

@@ -1,8 +1,7 @@
 // The plan that is made from a plan's points and a table of distances.
-ghost use Rattle.std.specs.Prelude.{◌≡◌, true, ◌++◌, ◌<◌, take};
+ghost use Rattle.std.specs.Prelude.{◌≡◌, true, ◌++◌, ◌<◌, take, if◌then◌else◌};
 ghost use Rattle.std.proofs.Math.IntN.{sub_ℕ};
 ghost use Rattle.plan.specs.APlan.{blank, records_of, plan_of};
-ghost use Rattle.plan.specs.Choice.{if◌then◌else◌};
 ghost use Rattle.plan.specs.Haul.{an_ordinary};
 ghost use Rattle.plan.specs.PlanFile.{signed_of};
 ghost use Rattle.tables.specs.Tables.{bias, side};

@@ -9,7 +9,7 @@ use lib.Dec.{eqb, ltb}
 use lib.ListN.{length, get_or, drop, length-append, length-take, take-append-drop, get_or-append}
 use lib.Seq.{get_or-take}
 use borrow.Author.Tests.{ltb-true, lt-ltb, ne_eqb}
-use Rattle.plan.specs.Choice.{if◌then◌else◌}
+use Rattle.std.specs.Prelude.{if◌then◌else◌}
 use Rattle.plan.specs.Limits.{most_points, most_ordinary, most_records, farthest}
 use Rattle.plan.specs.APlan.{points, blank, records_of, plan_of}
 use Rattle.plan.specs.ReplyNumbers.{refusal, accepted, refused, taken, check_of, check_with, first_bad}
@@ -58,10 +58,10 @@ E rs = edges_of rs unset
 abbrev close_by : Refusal → List Record → Reading
 close_by x rs =
     if not (eqb x.number 0) then refused x
-    else if has_steps rs then refused (refusal 61 0)
-    else if has_cycle (points rs) (distances_of rs) then refused (refusal 62 0)
-    else if some_too_far (points rs) (entry (distances_of rs)) then refused (refusal 63 0)
-    else taken (made_of rs)
+    else (if has_steps rs then refused (refusal 61 0)
+    else (if has_cycle (points rs) (distances_of rs) then refused (refusal 62 0)
+    else (if some_too_far (points rs) (entry (distances_of rs)) then refused (refusal 63 0)
+    else taken (made_of rs))))
 
 -- ---- a distance out of bounds
 

@@ -9,7 +9,7 @@ use lib.ListN.{length, get_or, drop}
 use lib.Seq.{ext_get_or}
 use Rattle.points.specs.Sets.{members_of}
 use Rattle.points.proofs.Laws.{same_members}
-use Rattle.plan.specs.Choice.{if◌then◌else◌}
+use Rattle.std.specs.Prelude.{if◌then◌else◌}
 use Rattle.plan.specs.Limits.{most_points}
 use Rattle.plan.specs.declared.Refusal.{Refusal}
 use Rattle.links.specs.declared.Links.{Links}

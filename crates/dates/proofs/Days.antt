@@ -6,7 +6,7 @@ use Prim.Native.Nat.{ℕ, zero, suc, ◌+◌, ◌-◌, ◌<◌, ◌≤◌}
 use native.Mathlib.Omega.{arith}
 use lib.Dec.{eqb, leb, ltb}
 use borrow.Author.Tests.{ltb-true, ltb-false, leb-true, le-leb}
-use Rattle.numbers.specs.Choice.{if◌then◌else◌}
+use Rattle.std.specs.Prelude.{if◌then◌else◌}
 use Rattle.dates.specs.Gregorian.{Date, leap, is_month, has_thirty, days_in, is_date, next_day, days_later}
 use Rattle.dates.specs.Counting.{days_of, before, day_number, Falls}
 use Rattle.dates.proofs.Sums.{next_part, rises, falls_once}
@@ -19,7 +19,7 @@ pub record Length (m n : ℕ) : Type 0 where
 
 -- some days of a month, by the tests that they go by: it is one, it is February, the year is a leap year, it has thirty
 abbrev by_tests : Bool → Bool → Bool → Bool → ℕ
-by_tests a b c d = if a then (if b then (if c then 29 else 28) else if d then 30 else 31) else 0
+by_tests a b c d = if a then (if b then (if c then 29 else 28) else (if d then 30 else 31)) else 0
 
 -- What the tests say gives the days of the month.
 pub chosen : (y m : ℕ) (a b c d : Bool) → is_month m ≡ a → eqb m 2 ≡ b → leap y ≡ c → has_thirty m ≡ d
@@ -155,8 +155,8 @@ next_after d e = go (ltb d.day (days_in d.year d.month)) refl (ltb d.month 12) r
     go : (b : Bool) → ltb d.day (days_in d.year d.month) ≡ b → (c : Bool) → ltb d.month 12 ≡ c
         → After d
         (if b then record { year = d.year; month = d.month; day = d.day + 1 }
-        else if c then record { year = d.year; month = d.month + 1; day = 1 }
-        else record { year = d.year + 1; month = 1; day = 1 })
+        else (if c then record { year = d.year; month = d.month + 1; day = 1 }
+        else record { year = d.year + 1; month = 1; day = 1 }))
     go true l c h =
         let r = ltb-true d.day (days_in d.year d.month) l in
         record { date = is_date_lem _ (omega arith) (omega arith); number = omega arith }

@@ -5,7 +5,7 @@ use Prim.Native.Nat.{ℕ, suc, ◌+◌, ◌*◌, ◌-◌, ◌/◌, ◌%◌, ◌<
 use native.Mathlib.Omega.{arith}
 use lib.Dec.{ltb}
 use borrow.Author.Tests.{ltb-true, ltb-false, lt-ltb}
-use Rattle.numbers.specs.Choice.{if◌then◌else◌}
+use Rattle.std.specs.Prelude.{if◌then◌else◌}
 use Rattle.dates.specs.declared.Stamp.{Stamp}
 use Rattle.dates.specs.Gregorian.{Date, days_in, is_date, next_day, days_later, date_of, minute_of, clock, is_origin, shown, next_minute}
 use Rattle.dates.specs.Counting.{days_of, before, day_number, minute_number}
@@ -63,8 +63,8 @@ same_day d t l = go (ltb (t % 60) 59) refl (ltb (t / 60) 23) refl
     go : (b : Bool) → ltb (t % 60) 59 ≡ b → (c : Bool) → ltb (t / 60) 23 ≡ c
         → clock d (t + 1)
         ≡ (if b then record { year = d.year; month = d.month; day = d.day; hour = t / 60; minute = t % 60 + 1 }
-        else if c then record { year = d.year; month = d.month; day = d.day; hour = t / 60 + 1; minute = 0 }
-        else clock (next_day d) 0)
+        else (if c then record { year = d.year; month = d.month; day = d.day; hour = t / 60 + 1; minute = 0 }
+        else clock (next_day d) 0))
     go true e c f =
         let u = ltb-true (t % 60) 59 e in
         let h : (t + 1) / 60 ≡ t / 60 = omega arith in

@@ -6,7 +6,7 @@ use native.Mathlib.Nat.{mod-add-div', add-div_right, add-mul-div_right, div-eq_o
 use native.Mathlib.Omega.{arith}
 use lib.Dec.{eqb}
 use borrow.Author.Tests.{eqb-true, eqb-false}
-use Rattle.numbers.specs.Choice.{if◌then◌else◌}
+use Rattle.std.specs.Prelude.{if◌then◌else◌}
 use Rattle.dates.specs.Gregorian.{leap}
 use Rattle.dates.specs.Counting.{days_of, before}
 use Rattle.dates.specs.Promises.{YearsCounted, FourCenturies}

@@ -1,7 +1,6 @@
 -- Days and minutes counted from the beginning of year 0: what the code counts by, and what shows that no two dates are
 -- confused. Assumes nothing.
-use Rattle.std.specs.Prelude.{ℕ, zero, suc, ◌+◌, ◌*◌, ◌<◌, ◌≡◌}
-use Rattle.numbers.specs.Choice.{if◌then◌else◌}
+use Rattle.std.specs.Prelude.{ℕ, zero, suc, ◌+◌, ◌*◌, ◌<◌, ◌≡◌, if◌then◌else◌}
 use Rattle.dates.specs.declared.Stamp.{Stamp}
 use Rattle.dates.specs.Gregorian.{Date, leap, days_in, date_of, minute_of}
 

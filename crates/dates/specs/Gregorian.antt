@@ -1,8 +1,7 @@
 -- The Gregorian calendar, as document 02, §10 asks for it: leap years, the days of a month, the day after a date, and the
 -- date, hour and minute that a minute of a sheet shows, minute 0 being the origin. Every definition computes. Assumes
 -- nothing.
-use Rattle.std.specs.Prelude.{Bool, not, ◌&&◌, ◌||◌, ℕ, zero, suc, ◌+◌, ◌*◌, ◌/◌, ◌%◌, eqb, leb, ltb}
-use Rattle.numbers.specs.Choice.{if◌then◌else◌}
+use Rattle.std.specs.Prelude.{Bool, not, ◌&&◌, ◌||◌, ℕ, zero, suc, ◌+◌, ◌*◌, ◌/◌, ◌%◌, eqb, leb, ltb, if◌then◌else◌}
 use Rattle.dates.specs.declared.Stamp.{Stamp}
 
 -- the years of which minute 0 may be
@@ -35,7 +34,7 @@ has_thirty m = eqb m 4 || (eqb m 6 || (eqb m 9 || eqb m 11))
 unfoldable pub days_in : ℕ → ℕ → ℕ
 days_in y m =
     if is_month m then
-    (if eqb m 2 then (if leap y then 29 else 28) else if has_thirty m then 30 else 31)
+    (if eqb m 2 then (if leap y then 29 else 28) else (if has_thirty m then 30 else 31))
     else 0
 
 -- it is a date: the month has such a day
@@ -46,8 +45,8 @@ is_date d = leb 1 d.day && leb d.day (days_in d.year d.month)
 unfoldable pub next_day : Date → Date
 next_day d =
     if ltb d.day (days_in d.year d.month) then record { year = d.year; month = d.month; day = d.day + 1 }
-    else if ltb d.month 12 then record { year = d.year; month = d.month + 1; day = 1 }
-    else record { year = d.year + 1; month = 1; day = 1 }
+    else (if ltb d.month 12 then record { year = d.year; month = d.month + 1; day = 1 }
+    else record { year = d.year + 1; month = 1; day = 1 })
 
 -- n days after a date
 unfoldable pub days_later : ℕ → Date → Date
@@ -85,5 +84,5 @@ shown o m =
 unfoldable pub next_minute : Stamp → Stamp
 next_minute s =
     if ltb s.minute 59 then record { year = s.year; month = s.month; day = s.day; hour = s.hour; minute = s.minute + 1 }
-    else if ltb s.hour 23 then record { year = s.year; month = s.month; day = s.day; hour = s.hour + 1; minute = 0 }
-    else clock (next_day (date_of s)) 0
+    else (if ltb s.hour 23 then record { year = s.year; month = s.month; day = s.day; hour = s.hour + 1; minute = 0 }
+    else clock (next_day (date_of s)) 0)

@@ -1,7 +1,6 @@
 -- What the engine that keeps counts answers from its rooms: the board, an event's number and the room after it, and the reply. The rooms
 -- may hold any numbers; l are the links that are handed in, s the event's bytes. Assumes nothing.
-use Rattle.std.specs.Prelude.{◌≡◌, List, ℕ, ◌+◌, ◌^◌, ◌<◌, eqb, length, get_or}
-use Rattle.plan.specs.Choice.{if◌then◌else◌}
+use Rattle.std.specs.Prelude.{◌≡◌, List, ℕ, ◌+◌, ◌^◌, ◌<◌, eqb, length, get_or, if◌then◌else◌}
 use Rattle.plan.specs.Limits.{most_points}
 use Rattle.plan.specs.declared.Refusal.{Refusal}
 use Rattle.links.specs.declared.Links.{Links}

@@ -1,6 +1,5 @@
 -- The drives of a projection, link by link: first of a plan's records, then as the functions find them on rows. Assumes nothing.
-use Rattle.std.specs.Prelude.{Bool, true, false, List, [], ◌∷◌, ◌++◌, ℕ, zero, suc, ◌+◌, ◌-◌, ◌<◌, ◌≤◌, eqb, length, replicate, set}
-use Rattle.plan.specs.Choice.{if◌then◌else◌}
+use Rattle.std.specs.Prelude.{Bool, true, false, List, [], ◌∷◌, ◌++◌, ℕ, zero, suc, ◌+◌, ◌-◌, ◌<◌, ◌≤◌, eqb, length, replicate, set, if◌then◌else◌}
 use Rattle.plan.specs.Limits.{most_records}
 use Rattle.plan.specs.APlan.{link, is}
 use Rattle.records.specs.declared.Record.{Record}

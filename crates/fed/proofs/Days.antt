@@ -26,7 +26,7 @@ use Rattle.printed.specs.Texts.{whole_in, texts_of, event_lines}
 use Rattle.printed.proofs.Records.{length_events}
 use Rattle.saying.specs.Makes.{Made, EventMade, EventsMade, EventsPut}
 use Rattle.saying.specs.Makes as makes
-use Rattle.saying.specs.declared.taking.Said.{Said}
+use Rattle.saying.specs.declared.putting.Said.{Said}
 use Rattle.saying.proofs.Listing.{texts_more, one_text}
 use Rattle.fed.specs.Runs.{EventPieces}
 use Rattle.fed.specs.Runs as runs

@@ -9,7 +9,7 @@ use lib.ListN.{length, take, drop, length-append, length-drop, drop_of_length-le
 use lib.Seq.{paste, take-paste, length-paste, take-length, take_at, drop_at, take-add, length-take-le, take-append-le, drop-append-le, take_all, drop-append-add}
 use borrow.Author.Tests.{le-leb, lt-ltb, le-ltb}
 use Rattle.numbers.specs.Fits.{All}
-use Rattle.plan.specs.Choice.{if◌then◌else◌}
+use Rattle.std.specs.Prelude.{if◌then◌else◌}
 use Rattle.plan.specs.Limits.{most_records, record_bytes}
 use Rattle.plan.specs.ReplyNumbers.{read_of}
 use Rattle.plan.specs.declared.Reading.{Reading}

@@ -8,7 +8,7 @@ use lib.Dec.{ltb}
 use lib.ListN.{length, take, drop, length-append, length-take, length-drop, take-append-drop, drop_of_length-le}
 use lib.Seq.{take-append-le, drop-append-le, take_at, drop_at, take_all, take-length, take-add, length-take-le, drop-append-add, drop-length}
 use borrow.Author.Tests.{lt-ltb, le-ltb}
-use Rattle.plan.specs.Choice.{if◌then◌else◌}
+use Rattle.std.specs.Prelude.{if◌then◌else◌}
 use Rattle.plan.specs.Limits.{record_bytes}
 use Rattle.board.specs.Streams.{events_in}
 use Rattle.stream.specs.Sheets.{is_mark}

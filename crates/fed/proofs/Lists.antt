@@ -13,7 +13,7 @@ use Rattle.numbers.specs.Fits.{All}
 use Rattle.records.specs.Held.{Held}
 use Rattle.records.proofs.Entries.{all_take}
 use Rattle.records.specs.declared.Record.{Record}
-use Rattle.plan.specs.Choice.{if◌then◌else◌}
+use Rattle.std.specs.Prelude.{if◌then◌else◌}
 use Rattle.plan.specs.Limits.{most_points, most_records}
 use Rattle.plan.specs.APlan.{points, watched, blank, records_of}
 use Rattle.lowhigh.specs.Rules.{number_at, place_from}
@@ -79,7 +79,7 @@ unfolding state_of
 named_state rs b q = go (is_done b q) (watched rs q) (not (is_open rs b q)) (ltb (latest rs b) (low rs b q)) (place_few 0 (shuts rs b q) rs)
   where
     go : (x y z w : Bool) → (holder rs b q ≡ 0) ⊎ (holder rs b q < 0 + length rs)
-        → Named rs (if x then state.Done (minute b q) else if y then state.Watched else if z then state.Shut (holder rs b q) else if w then state.Held else state.Offered (low rs b q))
+        → Named rs (if x then state.Done (minute b q) else (if y then state.Watched else (if z then state.Shut (holder rs b q) else (if w then state.Held else state.Offered (low rs b q)))))
     go true y z w h = inl refl
     go false true z w h = inl refl
     go false false true w (inl e) = inl e

@@ -6,7 +6,7 @@ use Rattle.plan.specs.Limits.{most_records, record_bytes}
 use Rattle.links.specs.declared.Links.{Links}
 use Rattle.stream.specs.Buffers.{appended}
 use Rattle.saying.specs.Makes.{EventsPut}
-use Rattle.saying.specs.declared.taking.Said.{Said}
+use Rattle.saying.specs.declared.putting.Said.{Said}
 use Rattle.feeding.specs.Parts.{PlanKept, PlanBegun, LastPut}
 use Rattle.feeding.specs.declared.front.Part.{Part}
 use Rattle.feeding.specs.declared.begun.Begun.{Begun}

@@ -1,7 +1,7 @@
 -- The plan part, record by record. Assumes nothing.
 use Rattle.std.proofs.Common.{◌≡◌, ℕ, suc, ◌+◌, ◌*◌, ◌/◌, ◌%◌, ◌^◌, ◌<◌, ◌≤◌, Bool, true, false, leb, List, [], ◌∷◌, ◌++◌, length, take, drop, sym, refl, ap, ◌∙◌, add-one, arith, leb-true}
 use lib.Seq.{paste, length-paste}
-use Rattle.plan.specs.Choice.{if◌then◌else◌}
+use Rattle.std.specs.Prelude.{if◌then◌else◌}
 use Rattle.plan.specs.Limits.{record_bytes}
 use Rattle.board.specs.Streams.{events_in}
 use Rattle.board.proofs.Theorems.Each.{clash}

@@ -1,7 +1,6 @@
 -- How the functions go over a text, a byte at a time. A reader of the rules can leave this page out: the open functions' contracts do
 -- not cite it. Assumes nothing.
-use Rattle.std.specs.Prelude.{Bool, true, false, ◌&&◌, not, List, [], ◌∷◌, ℕ, suc, ◌+◌, eqb}
-use Rattle.numbers.specs.Choice.{if◌then◌else◌}
+use Rattle.std.specs.Prelude.{Bool, true, false, ◌&&◌, not, List, [], ◌∷◌, ℕ, suc, ◌+◌, eqb, if◌then◌else◌}
 use Rattle.values.specs.Inside.{fresh, with}
 use Rattle.values.specs.declared.Seen.{Seen}
 use Rattle.fields.specs.Quoting.{cr, lf, act_of}
@@ -58,8 +57,8 @@ act_step Break s c = Broken
 unfoldable pub step_of : Spot → ℕ → Step
 step_of s c =
     if s.turned then behind_cr s.place c
-    else if eqb c cr then kept s.place s.seen true
-    else act_step (act_of s.place c) s.seen c
+    else (if eqb c cr then kept s.place s.seen true
+    else act_step (act_of s.place c) s.seen c)
 
 -- the text may end here: not inside quotes, and not behind a CR, which it would leave alone
 abbrev pub is_quoted : Place → Bool

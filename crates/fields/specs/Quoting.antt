@@ -1,7 +1,6 @@
 -- Document 02, §1, "comma-separated text as RFC 4180 has it, quoted fields and doubled quotes included": the fields of one line,
 -- or that its quoting is broken. Bytes are ASCII codes. Assumes nothing.
-use Rattle.std.specs.Prelude.{Bool, ◌||◌, List, [], ◌∷◌, ℕ, eqb}
-use Rattle.numbers.specs.Choice.{if◌then◌else◌}
+use Rattle.std.specs.Prelude.{Bool, ◌||◌, List, [], ◌∷◌, ℕ, eqb, if◌then◌else◌}
 use Rattle.fields.specs.declared.Place.{Place}
 use Rattle.fields.specs.declared.Place.TheVariants.{Begin, Bare, Quoted, Closed}
 use Rattle.fields.specs.declared.Act.{Act}
@@ -27,22 +26,22 @@ is_break c = eqb c cr || eqb c lf
 abbrev pub bare_act : ℕ → Act
 bare_act c =
     if eqb c comma then Cut
-    else if eqb c quote || is_break c then Break
-    else Keep Bare
+    else (if eqb c quote || is_break c then Break
+    else Keep Bare)
 
 -- inside quotes a quote closes the field, unless another follows
 abbrev pub quoted_act : ℕ → Act
 quoted_act c =
     if eqb c quote then Skip Closed
-    else if is_break c then Break
-    else Keep Quoted
+    else (if is_break c then Break
+    else Keep Quoted)
 
 -- behind a quote that may have closed the field: a second one is a quote of the field, and a comma ends it
 abbrev pub closed_act : ℕ → Act
 closed_act c =
     if eqb c quote then Keep Quoted
-    else if eqb c comma then Cut
-    else Break
+    else (if eqb c comma then Cut
+    else Break)
 
 -- what a byte does at its place in a field: a field that begins with a quote is a quoted one
 abbrev pub act_of : Place → ℕ → Act

@@ -1,7 +1,6 @@
 -- An answer as one number of 64 bits, for programs in other languages: the reply number, 0 where nothing is refused, and what stands
 -- beside it. Assumes nothing.
-use Rattle.std.specs.Prelude.{ℕ, ◌+◌, ◌*◌, ◌^◌, ◌-◌, min, eqb}
-use Rattle.plan.specs.Choice.{if◌then◌else◌}
+use Rattle.std.specs.Prelude.{ℕ, ◌+◌, ◌*◌, ◌^◌, ◌-◌, min, eqb, if◌then◌else◌}
 
 -- the lower half is the reply number, the upper half what stands beside it
 abbrev pub answer_of : ℕ → ℕ → ℕ

@@ -1,6 +1,5 @@
 -- What is answered of a plan file, given as its bytes s: the reader's own refusal, or what is said of the plan that it reads to. Assumes nothing.
-use Rattle.std.specs.Prelude.{List, ℕ, eqb}
-use Rattle.plan.specs.Choice.{if◌then◌else◌}
+use Rattle.std.specs.Prelude.{List, ℕ, eqb, if◌then◌else◌}
 use Rattle.plan.specs.ReplyNumbers.{read_of}
 use Rattle.plan.specs.declared.Plan.{Plan}
 

@@ -11,7 +11,7 @@ use lib.ListN.{length, set}
 use lib.Seq.{get_or-set_same, get_or-set_other}
 use Rattle.points.specs.Sets.{member, with_of}
 use Rattle.points.proofs.Laws.{member_with}
-use Rattle.plan.specs.Choice.{if◌then◌else◌}
+use Rattle.std.specs.Prelude.{if◌then◌else◌}
 use Rattle.plan.specs.Limits.{most_points, farthest}
 use Rattle.plan.specs.APlan.{ordinary, wait, is, one, how_many, link_to, gap_of}
 use Rattle.records.specs.declared.Record.{Record}
@@ -108,7 +108,7 @@ old_bound true false d v u = refl
 old_bound false o d v u = refl
 
 split_after : (a o d w u : Bool) (v x : ℕ) → (o && w) ≡ false
-    → (if a && (o && d) then v else if a && (w && u) then x else 0) ≡ max (if a && (o && d) then v else 0) (if a && (w && u) then x else 0)
+    → (if a && (o && d) then v else (if a && (w && u) then x else 0)) ≡ max (if a && (o && d) then v else 0) (if a && (w && u) then x else 0)
 split_after false o d w u v x e = refl
 split_after true true d true u v x e = clash e
 split_after true true true false u v x e = omega arith

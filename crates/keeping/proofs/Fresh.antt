@@ -7,7 +7,7 @@ use native.Mathlib.Omega.{arith}
 use lib.Dec.{eqb, ltb}
 use lib.ListN.{length, get_or, take, get_or-replicate}
 use Rattle.points.proofs.Laws.{member_empty, members_empty}
-use Rattle.plan.specs.Choice.{if◌then◌else◌}
+use Rattle.std.specs.Prelude.{if◌then◌else◌}
 use Rattle.plan.specs.Limits.{most_points, most_records, farthest}
 use Rattle.plan.specs.APlan.{ordinary, wait, link, is, one, how_many, blank, link_to, gap_of}
 use Rattle.records.specs.declared.Record.{Record}

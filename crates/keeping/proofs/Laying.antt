@@ -8,7 +8,7 @@ use native.Mathlib.Omega.{arith}
 use borrow.Author.Tests.{lt-ltb, ne_eqb, eqb-true}
 use lib.Dec.{eqb, ltb}
 use lib.ListN.{length, get_or}
-use Rattle.plan.specs.Choice.{if◌then◌else◌}
+use Rattle.std.specs.Prelude.{if◌then◌else◌}
 use Rattle.plan.specs.Limits.{most_points, most_records, farthest}
 use Rattle.plan.specs.APlan.{ordinary, wait, point, link, is, one, how_many, kind_of, blank, link_to, gap_of, watched}
 use Rattle.plan.specs.ReplyNumbers.{is_known}

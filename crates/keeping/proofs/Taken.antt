@@ -11,7 +11,7 @@ use lib.Dec.{eqb}
 use lib.ListN.{length, set}
 use Rattle.points.specs.Sets.{member, members_of, passing, from, with_of}
 use Rattle.points.proofs.Laws.{count_le}
-use Rattle.plan.specs.Choice.{if◌then◌else◌}
+use Rattle.std.specs.Prelude.{if◌then◌else◌}
 use Rattle.plan.specs.Limits.{most_points, most_records, farthest}
 use Rattle.plan.specs.APlan.{link, is, link_to, watched, records_of}
 use Rattle.plan.specs.ReplyNumbers.{check_of}

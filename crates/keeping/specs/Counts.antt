@@ -1,8 +1,7 @@
 -- Document 02, §5: what is kept for a point q, each as a count, largest or least over the whole plan, on plain values: rs are the plan's
 -- records, then the set of done points and the minute of each. Assumes nothing.
-use Rattle.std.specs.Prelude.{Bool, ◌&&◌, ◌||◌, List, ℕ, ◌+◌, ◌-◌, eqb, ltb}
+use Rattle.std.specs.Prelude.{Bool, ◌&&◌, ◌||◌, List, ℕ, ◌+◌, ◌-◌, eqb, ltb, if◌then◌else◌}
 use Rattle.points.specs.Sets.{member}
-use Rattle.plan.specs.Choice.{if◌then◌else◌}
 use Rattle.plan.specs.Limits.{farthest}
 use Rattle.plan.specs.APlan.{ordinary, wait, is, how_many, link_to, gap_of}
 use Rattle.records.specs.declared.Record.{Record}

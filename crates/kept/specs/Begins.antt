@@ -1,6 +1,5 @@
 -- What is kept of the fresh board, from the rows of the records. A reader of the rules can leave this page out. Assumes nothing.
-use Rattle.std.specs.Prelude.{◌≡◌, List, ℕ, zero, suc, ◌+◌, ◌<◌, ◌≤◌, min, eqb, length, get_or}
-use Rattle.plan.specs.Choice.{if◌then◌else◌}
+use Rattle.std.specs.Prelude.{◌≡◌, List, ℕ, zero, suc, ◌+◌, ◌<◌, ◌≤◌, min, eqb, length, get_or, if◌then◌else◌}
 use Rattle.plan.specs.Limits.{most_points}
 use Rattle.plan.specs.APlan.{one}
 use Rattle.lowhigh.specs.Rules.{never}

@@ -1,8 +1,7 @@
 -- What the points of an event change of the room of what is kept, whatever the rooms hold. What one row says and changes is stated by
 -- `kept_rows`, and handed on. A reader of the rules can leave this page out. Assumes nothing.
-use Rattle.std.specs.Prelude.{List, [], ◌∷◌, ℕ, ◌+◌, min, ltb, get_or, set}
+use Rattle.std.specs.Prelude.{List, [], ◌∷◌, ℕ, ◌+◌, min, ltb, get_or, set, if◌then◌else◌}
 use Rattle.points.specs.Sets.{members_of, with_of}
-use Rattle.plan.specs.Choice.{if◌then◌else◌}
 use Rattle.plan.specs.Limits.{most_points}
 use Rattle.lowhigh.specs.Rules.{never}
 use Rattle.events.specs.declared.Event.{Event}

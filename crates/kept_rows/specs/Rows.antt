@@ -1,8 +1,7 @@
 -- The room of what is kept, and what one row says and changes of it, whatever the room holds. A reader of the rules can leave this page
 -- out. Assumes nothing.
-use Rattle.std.specs.Prelude.{Bool, not, ◌&&◌, ◌||◌, List, ℕ, ◌+◌, ◌-◌, ◌%◌, ◌^◌, min, max, eqb, ltb, get_or, set}
+use Rattle.std.specs.Prelude.{Bool, not, ◌&&◌, ◌||◌, List, ℕ, ◌+◌, ◌-◌, ◌%◌, ◌^◌, min, max, eqb, ltb, get_or, set, if◌then◌else◌}
 use Rattle.points.specs.Sets.{member}
-use Rattle.plan.specs.Choice.{if◌then◌else◌}
 use Rattle.plan.specs.Limits.{most_points, farthest}
 use Rattle.plan.specs.APlan.{one}
 use Rattle.lowhigh.specs.Rules.{never}

@@ -10,7 +10,7 @@ use lib.Dec.{eqb, ltb}
 use lib.ListN.{length, get_or, drop}
 use lib.Seq.{get_or-drop}
 use Rattle.points.specs.Sets.{member}
-use Rattle.plan.specs.Choice.{if◌then◌else◌}
+use Rattle.std.specs.Prelude.{if◌then◌else◌}
 use Rattle.plan.specs.Limits.{most_points, most_records}
 use Rattle.plan.specs.APlan.{one, how_many, some, blank, link_to, gap_of}
 use Rattle.records.specs.declared.Record.{Record}

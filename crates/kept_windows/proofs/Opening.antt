@@ -13,7 +13,7 @@ use lib.ListN.{length, get_or, set, drop, replicate, length-set, length-replicat
 use lib.Seq.{get_or-set_same, get_or-set_other, get_or-drop}
 use Rattle.points.specs.Sets.{member, members_of, with_of}
 use Rattle.points.proofs.Laws.{Turn, member_empty, members_empty, member_with, with_fits}
-use Rattle.plan.specs.Choice.{if◌then◌else◌}
+use Rattle.std.specs.Prelude.{if◌then◌else◌}
 use Rattle.plan.specs.Limits.{most_points}
 use Rattle.lowhigh.specs.Rules.{never}
 use Rattle.windows.specs.Inside.{least_at}

@@ -1,8 +1,7 @@
 -- What the kept numbers say of each point of a plan of so many points, some of them watched: open, its Low, and H; and which record holds
 -- it. No reader of the rules needs this page. Assumes nothing.
-use Rattle.std.specs.Prelude.{◌≡◌, Bool, not, ◌&&◌, List, ℕ, ◌+◌, ◌<◌, ◌^◌, max, eqb, ltb, length, get_or, drop}
+use Rattle.std.specs.Prelude.{◌≡◌, Bool, not, ◌&&◌, List, ℕ, ◌+◌, ◌<◌, ◌^◌, max, eqb, ltb, length, get_or, drop, if◌then◌else◌}
 use Rattle.points.specs.Sets.{member, members_of}
-use Rattle.plan.specs.Choice.{if◌then◌else◌}
 use Rattle.plan.specs.Limits.{most_points}
 use Rattle.windows.specs.Inside.{least_at}
 use Rattle.windows.specs.declared.Windows.{Windows}

@@ -1,6 +1,5 @@
 -- What the functions that find the least way ask and do. A reader of the rules can leave this page out. Assumes nothing.
-use Rattle.std.specs.Prelude.{◌≡◌, ◌&&◌, List, ℕ, ◌+◌, ◌<◌, ◌≤◌, ltb}
-use Rattle.plan.specs.Choice.{if◌then◌else◌}
+use Rattle.std.specs.Prelude.{◌≡◌, ◌&&◌, List, ℕ, ◌+◌, ◌<◌, ◌≤◌, ltb, if◌then◌else◌}
 use Rattle.network.specs.Passing.{Consistent}
 use Rattle.tables.specs.Tables.{side}
 use Rattle.tables.specs.Entries.{raw, nowhere}

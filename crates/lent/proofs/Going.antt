@@ -10,7 +10,7 @@ use borrow.Author.Tests.{ltb-true, ltb-false}
 use lib.IntN.{pos}
 use lib.ListN.{length, drop, get_or, drop_of_length-le}
 use lib.Seq.{drop-cons}
-use Rattle.plan.specs.Choice.{if◌then◌else◌}
+use Rattle.std.specs.Prelude.{if◌then◌else◌}
 use Rattle.plan.specs.APlan.{points, records_of}
 use Rattle.plan.specs.declared.Plan.{Plan}
 use Rattle.bounds.specs.declared.Bound.{Bound}
@@ -53,7 +53,7 @@ module _ (n : ℕ) (b : Board) where
   kept i (x ∷ xs) = go (named_in n x) (kept_on b x) (kept (suc i) xs)
     where
       go : (t u : Bool) → gone_through (at Kept) (suc i) xs ≡ first_not (named_in n) (Refused 8) (first_not (kept_on b) Broken Kept (suc i) xs) (suc i) xs
-          → gone_through (at (if not t then Refused 8 i else if u then Kept else Broken i)) (suc i) xs
+          → gone_through (at (if not t then Refused 8 i else (if u then Kept else Broken i))) (suc i) xs
           ≡ (if t then first_not (named_in n) (Refused 8) (if u then first_not (kept_on b) Broken Kept (suc i) xs else Broken i) (suc i) xs else Refused 8 i)
       go false u next = refused (at (Refused 8 i)) 8 i (suc i) xs refl
       go true true next = next

@@ -10,7 +10,7 @@ use native.Mathlib.Decide.{dec_lt}
 use lib.Dec.{eqb}
 use lib.ListN.{length, get_or, take}
 use borrow.Author.Tests.{eqb-true, ne_eqb, lt-ltb}
-use Rattle.plan.specs.Choice.{if◌then◌else◌}
+use Rattle.std.specs.Prelude.{if◌then◌else◌}
 use Rattle.plan.specs.APlan.{ordinary, wait, is, blank, points, how_many, one, link_to, records_of}
 use Rattle.plan.specs.declared.Plan.{Plan}
 use Rattle.records.specs.declared.Record.{Record}
@@ -129,7 +129,7 @@ module _ (rs : List Record) (b : Board) where
 
       go : (o : Bool) → is ordinary x ≡ o → (u : Bool) → kept_on b this ≡ u → (w : Bool) → is wait x ≡ w → (t : Bool)
           → Agree xs (suc i) (suc j) (first_broken rs b (suc i) xs) (first_not (kept_on b) Broken Kept (suc j) (ordinaries xs)) → Agree xs (suc i) j (first_broken rs b (suc i) xs) (first_not (kept_on b) Broken Kept j (ordinaries xs))
-          → Agree (x ∷ xs) i j (if (if o then u else if w then t else true) then first_broken rs b (suc i) xs else verdict.Broken i) (first_not (kept_on b) Broken Kept j (if◌then◌else◌ {A = List Bound} o (this ∷ ordinaries xs) (ordinaries xs)))
+          → Agree (x ∷ xs) i j (if (if o then u else (if w then t else true)) then first_broken rs b (suc i) xs else verdict.Broken i) (first_not (kept_on b) Broken Kept j (if◌then◌else◌ {A = List Bound} o (this ∷ ordinaries xs) (ordinaries xs)))
       go true eo true eu w ew t counted passed = rw eu (later x xs i j (suc j) (rw eo (omega arith)) counted)
       go true eo false eu w ew t counted passed = rw eu (both_broken 0 i j (omega arith) (omega arith))
       go false eo u eu true ew true counted passed = later x xs i j j (rw eo (omega arith)) passed

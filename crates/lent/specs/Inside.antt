@@ -1,6 +1,5 @@
 -- What the crate's own functions answer, one bound at a time: no reader of `judge` needs this page. Assumes nothing.
-use Rattle.std.specs.Prelude.{Bool, false, not, List, [], ◌∷◌, ℕ, suc, eqb, ltb}
-use Rattle.plan.specs.Choice.{if◌then◌else◌}
+use Rattle.std.specs.Prelude.{Bool, false, not, List, [], ◌∷◌, ℕ, suc, eqb, ltb, if◌then◌else◌}
 use Rattle.plan.specs.APlan.{points, records_of}
 use Rattle.plan.specs.declared.Plan.{Plan}
 use Rattle.bounds.specs.declared.Bound.{Bound}
@@ -29,7 +28,7 @@ goes_on (Broken j) i n = ltb i n
 -- after the answer a, with one bound at the place i
 abbrev pub answer_after : Judged → ℕ → Bool → Bool → Judged
 answer_after (Refused k j) i named kept = Refused k j
-answer_after Kept i named kept = if not named then Refused 8 i else if kept then Kept else Broken i
+answer_after Kept i named kept = if not named then Refused 8 i else (if kept then Kept else Broken i)
 answer_after (Broken j) i named kept = if named then Broken j else Refused 8 i
 
 abbrev pub judged_after : Judging → ℕ → Bound → Judging

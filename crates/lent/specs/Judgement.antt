@@ -1,6 +1,5 @@
 -- Document 01, "Verdict and plan test": the verdict over a lent list of bounds. Assumes nothing.
-use Rattle.std.specs.Prelude.{Bool, not, List, [], ◌∷◌, ℕ, suc, eqb}
-use Rattle.plan.specs.Choice.{if◌then◌else◌}
+use Rattle.std.specs.Prelude.{Bool, not, List, [], ◌∷◌, ℕ, suc, eqb, if◌then◌else◌}
 use Rattle.plan.specs.APlan.{ordinary, is, points, records_of}
 use Rattle.records.specs.declared.Record.{Record}
 use Rattle.plan.specs.declared.Plan.{Plan}

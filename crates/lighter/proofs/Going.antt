@@ -10,7 +10,7 @@ use native.Mathlib.Numerals.{add-one}
 use lib.ListN.{length, get_or, set, drop, replicate, length-append, length-take, length-drop, length-replicate}
 use lib.Seq.{append_snoc, drop-cons, drop-length, take_at, drop_at, get_or_at, take_all}
 use borrow.Author.Tests.{eqb-true}
-use Rattle.plan.specs.Choice.{if◌then◌else◌}
+use Rattle.std.specs.Prelude.{if◌then◌else◌}
 use Rattle.plan.specs.Limits.{most_records}
 use Rattle.plan.specs.APlan.{one, points, blank, records_of, plan_of}
 use Rattle.records.specs.declared.Record.{Record}

@@ -12,7 +12,7 @@ use lib.Seq.{set-get_or, get_or-set_same, get_or-set_other}
 use borrow.Author.Tests.{eqb-true, eq-eqb, ne_eqb, lt-ltb, ltb-true, ltb-false}
 use Rattle.points.specs.Sets.{member, with_of}
 use Rattle.points.proofs.Laws.{member_empty, member_with, with_fits, with_past}
-use Rattle.plan.specs.Choice.{if◌then◌else◌}
+use Rattle.std.specs.Prelude.{if◌then◌else◌}
 use Rattle.plan.specs.Limits.{most_points}
 use Rattle.plan.specs.APlan.{point, link, byte_of, is, one, how_many, some, ends_at, watched, first_that, link_to, blank}
 use Rattle.plan.specs.ReplyNumbers.{check_of}

@@ -1,7 +1,6 @@
 -- What is kept of a plan's links, and what is answered by them. No reader of the rules needs this page. Assumes nothing.
-use Rattle.std.specs.Prelude.{◌≡◌, Bool, true, not, ◌&&◌, List, ℕ, ◌+◌, ◌<◌, ◌^◌, ltb, leb, length, get_or}
+use Rattle.std.specs.Prelude.{◌≡◌, Bool, true, not, ◌&&◌, List, ℕ, ◌+◌, ◌<◌, ◌^◌, ltb, leb, length, get_or, if◌then◌else◌}
 use Rattle.points.specs.Sets.{member, members_of, with_of, every}
-use Rattle.plan.specs.Choice.{if◌then◌else◌}
 use Rattle.plan.specs.Limits.{most_points}
 use Rattle.plan.specs.APlan.{link, is, points, watched, link_to}
 use Rattle.plan.specs.ReplyNumbers.{check_of}
@@ -59,7 +58,7 @@ timely_at minutes l t c = timely (minute_in minutes (get_or l.ends c no_end).fro
 unfoldable pub set_number : List Record → ℕ → ℕ → List ℕ → ℕ → ℕ → ℕ → ℕ
 set_number rs clock done minutes t set next =
     if ltb t clock then 24
-    else if not (every (ends_running rs done) (members_of set)) then 25
-    else if not (every (in_time rs minutes t) (members_of set)) then 26
-    else if not (each (not_late done minutes t set) rs) then 27
-    else next
+    else (if not (every (ends_running rs done) (members_of set)) then 25
+    else (if not (every (in_time rs minutes t) (members_of set)) then 26
+    else (if not (each (not_late done minutes t set) rs) then 27
+    else next)))

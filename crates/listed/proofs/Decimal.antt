@@ -9,7 +9,7 @@ use lib.IntN.{ℤ, pos, negsuc}
 use lib.ListN.{length, length-append}
 use lib.Signed.{mag}
 use borrow.Author.Tests.{ne_eqb, lt-ltb, leb-true, ltb-true, ltb-false}
-use Rattle.numbers.specs.Choice.{if◌then◌else◌}
+use Rattle.std.specs.Prelude.{if◌then◌else◌}
 use Rattle.numbers.specs.Fits.{All}
 use Rattle.values.specs.Values.{is_empty, is_digit, all_digits, value_from, is_number, number_of}
 use Rattle.values.proofs.Tests.{both}

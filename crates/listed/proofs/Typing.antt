@@ -6,7 +6,7 @@ use Prim.Native.Nat.{ℕ, ◌≤◌}
 use native.Mathlib.Omega.{arith}
 use lib.Dec.{eqb}
 use borrow.Author.Tests.{ne_eqb}
-use Rattle.numbers.specs.Choice.{if◌then◌else◌}
+use Rattle.std.specs.Prelude.{if◌then◌else◌}
 use Rattle.numbers.specs.Fits.{All}
 use Rattle.values.specs.Values.{is_empty}
 use Rattle.phrases.specs.Phrases.{is_lf, is_cr, is_blank, is_hash, in_first, cut, filled, begins_lf, without_crs, lines_of, uncommented, words_of}

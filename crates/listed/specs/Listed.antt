@@ -1,7 +1,6 @@
 -- A plan file as a listing: one line for each record, in file order, as `listing` takes it. Numbers are decimal without zeros in front.
 -- Assumes nothing.
-use Rattle.std.specs.Prelude.{◌≡◌, List, [], ◌∷◌, ◌++◌, ℕ, ◌≤◌, length, drop}
-use Rattle.numbers.specs.Choice.{if◌then◌else◌}
+use Rattle.std.specs.Prelude.{◌≡◌, List, [], ◌∷◌, ◌++◌, ℕ, ◌≤◌, length, drop, if◌then◌else◌}
 use Rattle.numbers.specs.Fits.{All, IsByte}
 use Rattle.records.specs.Records.{point, link, ordinary, wait, is}
 use Rattle.records.specs.declared.Record.{Record}
@@ -35,11 +34,11 @@ wait_text r = text_of (Name wait_word) (Number r.a ∷ Number r.b ∷ signed_pie
 
 -- what the last two kinds, and none, are typed as
 abbrev pub other_text : Record → List ℕ
-other_text r = if is ordinary r then ordinary_text r else if is wait r then wait_text r else []
+other_text r = if is ordinary r then ordinary_text r else (if is wait r then wait_text r else [])
 
 -- the text of a record's line
 abbrev pub record_text : Record → List ℕ
-record_text r = if is point r then point_text r else if is link r then link_text r else other_text r
+record_text r = if is point r then point_text r else (if is link r then link_text r else other_text r)
 
 abbrev pub link_line : Record → Line
 link_line r = line_of (link_text r)

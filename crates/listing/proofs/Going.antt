@@ -10,7 +10,7 @@ use lib.Dec.{eqb, ltb}
 use lib.ListN.{length, take, drop, length-append, length-drop, drop_of_length-le}
 use lib.Seq.{paste, drop-length, drop-drop, take_all, take_at, drop-append-add}
 use borrow.Author.Tests.{eqb-false, lt-ltb, le-ltb}
-use Rattle.numbers.specs.Choice.{if◌then◌else◌}
+use Rattle.std.specs.Prelude.{if◌then◌else◌}
 use Rattle.records.specs.Limits.{record_bytes}
 use Rattle.records.specs.Bytes.{bytes_of}
 use Rattle.phrases.specs.Phrases.{cut, filled, without_crs, uncommented, lines_of, words_of}
@@ -55,7 +55,7 @@ bad_some (f ∷ fs) k e = go (eqb (kind_of f) 0) (eqb (length fs) (length (expec
     code (bad m) = m
     code (good y) = 0
 
-    go : (s t : Bool) → (if s then bad 1 else if not t then bad 2 else unless_wrong (first_wrong (expected (kind_of f)) fs) (said_by (kind_of f) fs)) ≡ bad k → 1 ≤ k
+    go : (s t : Bool) → (if s then bad 1 else (if not t then bad 2 else unless_wrong (first_wrong (expected (kind_of f)) fs) (said_by (kind_of f) fs))) ≡ bad k → 1 ≤ k
     go true t h = let z : 1 ≡ k = ap code h in omega arith
     go false false h = let z : 2 ≡ k = ap code h in omega arith
     go false true h = unless_bad (first_wrong (expected (kind_of f)) fs) (said_by (kind_of f) fs) k h

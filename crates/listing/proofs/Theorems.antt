@@ -7,7 +7,7 @@ use native.Mathlib.Omega.{arith}
 use lib.Dec.{eqb}
 use lib.ListN.{length, get_or}
 use borrow.Author.Tests.{ne_eqb}
-use Rattle.numbers.specs.Choice.{if◌then◌else◌}
+use Rattle.std.specs.Prelude.{if◌then◌else◌}
 use Rattle.sayings.specs.Sayings.{kind_of, expected, first_wrong, said_by, row_of}
 use Rattle.sayings.specs.declared.Said.{Said}
 use Rattle.sayings.specs.declared.Said.TheVariants.{Nothing}
@@ -46,7 +46,7 @@ unfolding row_of row_code row_said
 said_is f fs x e = go (eqb (kind_of f) 0) (eqb (length fs) (length (expected (kind_of f)))) (eqb (first_wrong (expected (kind_of f)) fs) 0) e
   where
     go : (a b c : Bool)
-        → (if a then bad 1 else if not b then bad 2 else if c then good (said_by (kind_of f) fs) else bad (first_wrong (expected (kind_of f)) fs)) ≡ good x → x ≡ said_by (kind_of f) fs
+        → (if a then bad 1 else (if not b then bad 2 else (if c then good (said_by (kind_of f) fs) else bad (first_wrong (expected (kind_of f)) fs)))) ≡ good x → x ≡ said_by (kind_of f) fs
     go true b c h = no (ap row_code h)
     go false false c h = no (ap row_code h)
     go false true true h = sym (ap row_said h)

@@ -8,7 +8,7 @@ use lib.Dec.{eqb, ltb}
 use lib.ListN.{length}
 use lib.Signed.{mag}
 use borrow.Author.Tests.{eqb-true, ltb-true}
-use Rattle.numbers.specs.Choice.{if◌then◌else◌}
+use Rattle.std.specs.Prelude.{if◌then◌else◌}
 use Rattle.numbers.proofs.Words.{word_back}
 use Rattle.records.specs.Bytes.{record_in, bytes_of}
 use Rattle.records.specs.Held.{Held}
@@ -160,7 +160,7 @@ row_held [] x e = let z : Nothing ≡ x = ap row_said e in rw (← z) tt
 row_held (f ∷ fs) x e = go (eqb (kind_of f) 0) (eqb (length fs) (length (expected (kind_of f)))) refl (eqb (first_wrong (expected (kind_of f)) fs) 0) refl e
   where
     go : (a b : Bool) → eqb (length fs) (length (expected (kind_of f))) ≡ b → (c : Bool) → eqb (first_wrong (expected (kind_of f)) fs) 0 ≡ c
-        → (if a then bad 1 else if not b then bad 2 else if c then good (said_by (kind_of f) fs) else bad (first_wrong (expected (kind_of f)) fs)) ≡ good x → HeldSaid x
+        → (if a then bad 1 else (if not b then bad 2 else (if c then good (said_by (kind_of f) fs) else bad (first_wrong (expected (kind_of f)) fs)))) ≡ good x → HeldSaid x
     go true b p c q h = no (ap row_code h)
     go false false p c q h = no (ap row_code h)
     go false true p false q h = no (ap row_code h)

@@ -1,8 +1,7 @@
 -- A listing typed by people as the bytes that the programs read: a record of sixteen bytes for each line that has words. Nothing is
 -- written unless every line is good: else the first bad line, counted from 1, and what was expected there are told. What a line says
 -- and the numbers of what is expected are handed on from `sayings`, lines and words from `phrases`. Assumes nothing.
-use Rattle.std.specs.Prelude.{Bool, List, [], ◌∷◌, ◌++◌, ℕ, suc, ◌*◌, ltb, length, drop}
-use Rattle.numbers.specs.Choice.{if◌then◌else◌}
+use Rattle.std.specs.Prelude.{Bool, List, [], ◌∷◌, ◌++◌, ℕ, suc, ◌*◌, ltb, length, drop, if◌then◌else◌}
 use Rattle.records.specs.Limits.{record_bytes}
 use Rattle.sayings.specs.declared.Said.{Said}
 use Rattle.sayings.specs.declared.Said.TheVariants.{Nothing, Plan, Mark, Event}

@@ -1,6 +1,5 @@
 -- What is promised of a packed listing, each statement as a type. `proofs/Theorems` proves them. Definitions only. Assumes nothing.
-use Rattle.std.specs.Prelude.{◌≡◌, List, [], ◌∷◌, ◌++◌, map, ℕ, ◌+◌, ◌*◌, ◌-◌, ◌≤◌, ◌<◌, eqb, length, get_or, drop}
-use Rattle.numbers.specs.Choice.{if◌then◌else◌}
+use Rattle.std.specs.Prelude.{◌≡◌, List, [], ◌∷◌, ◌++◌, map, ℕ, ◌+◌, ◌*◌, ◌-◌, ◌≤◌, ◌<◌, eqb, length, get_or, drop, if◌then◌else◌}
 use Rattle.numbers.specs.Numbers.{word_at}
 use Rattle.records.specs.Limits.{record_bytes}
 use Rattle.records.specs.Bytes.{record_in}

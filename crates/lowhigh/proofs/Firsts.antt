@@ -5,7 +5,7 @@ use mathlib.Core.List.{List, [], ◌∷◌, ◌++◌}
 use Prim.Native.Nat.{ℕ, zero, suc, ◌+◌, ◌<◌}
 use native.Mathlib.Omega.{arith}
 use lib.ListN.{length, get_or}
-use Rattle.plan.specs.Choice.{if◌then◌else◌}
+use Rattle.std.specs.Prelude.{if◌then◌else◌}
 use Rattle.plan.specs.APlan.{some, blank}
 use Rattle.plan.specs.declared.Found.{Found}
 use Rattle.plan.specs.declared.Found.TheVariants.{At, Nothing}
@@ -15,7 +15,7 @@ use Rattle.lowhigh.specs.Rules.{place_from, is_nothing, number_at}
 
 -- the first record that is so, with a record more, where i is the place of the first of all
 pub place_snoc : (i : ℕ) (so : Record → Bool) (rs : List Record) (r : Record)
-    → number_at (place_from i so (rs ++ (r ∷ []))) ≡ (if some so rs then number_at (place_from i so rs) else if so r then i + length rs else 0)
+    → number_at (place_from i so (rs ++ (r ∷ []))) ≡ (if some so rs then number_at (place_from i so rs) else (if so r then i + length rs else 0))
 unfolding place_from some
 place_snoc i so [] r = go (so r)
   where
@@ -27,9 +27,9 @@ place_snoc i so (x ∷ rs) r = go (so x) (place_snoc (suc i) so rs r)
     more : i + suc (length rs) ≡ suc i + length rs
     more = omega arith
 
-    go : (t : Bool) → number_at (place_from (suc i) so (rs ++ (r ∷ []))) ≡ (if some so rs then number_at (place_from (suc i) so rs) else if so r then suc i + length rs else 0)
+    go : (t : Bool) → number_at (place_from (suc i) so (rs ++ (r ∷ []))) ≡ (if some so rs then number_at (place_from (suc i) so rs) else (if so r then suc i + length rs else 0))
         → number_at (if t then At i else place_from (suc i) so (rs ++ (r ∷ [])))
-        ≡ (if t || some so rs then number_at (if t then At i else place_from (suc i) so rs) else if so r then i + suc (length rs) else 0)
+        ≡ (if t || some so rs then number_at (if t then At i else place_from (suc i) so rs) else (if so r then i + suc (length rs) else 0))
     go true e = refl
     go false e = rw more e
 

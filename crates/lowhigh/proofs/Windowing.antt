@@ -12,7 +12,7 @@ use lib.ListN.{length, take, get_or, set, replicate, length-set, length-take, le
 use lib.Seq.{get_or-set_same, get_or-set_other}
 use Rattle.points.specs.Sets.{member, with_of}
 use Rattle.points.proofs.Laws.{member_empty, member_small, member_with, with_fits}
-use Rattle.plan.specs.Choice.{if◌then◌else◌}
+use Rattle.std.specs.Prelude.{if◌then◌else◌}
 use Rattle.plan.specs.Limits.{most_points}
 use Rattle.plan.specs.APlan.{link, ordinary, wait, is, some, watched, ends_at, link_to, gap_of, blank}
 use Rattle.records.specs.declared.Record.{Record}
@@ -100,7 +100,7 @@ put_held t p q v c h = go (ℕ_discrete q p)
 
 -- the first record that keeps a point shut: an earlier one, or else the one that is heard
 first_held : (e so earlier : Bool) (v old : ℕ) → (earlier ≡ false → old ≡ 0)
-    → (if e && (so && not earlier) then v else old) ≡ (if earlier then old else if e && so then v else 0)
+    → (if e && (so && not earlier) then v else old) ≡ (if earlier then old else (if e && so then v else 0))
 first_held true true true v old f = refl
 first_held true true false v old f = refl
 first_held true false true v old f = refl
@@ -153,19 +153,19 @@ module _ (rs : List Record) (done : ℕ) (minutes : List ℕ) (fits : done < 2 ^
       plain e false = refl
 
   -- Low
-  low_ordinary : (e d : Bool) (x y : ℕ) → (if e && d then x else if e && false then y else 0) ≡ (if e then (if d then x else 0) else 0)
+  low_ordinary : (e d : Bool) (x y : ℕ) → (if e && d then x else (if e && false then y else 0)) ≡ (if e then (if d then x else 0) else 0)
   low_ordinary true true x y = refl
   low_ordinary true false x y = refl
   low_ordinary false d x y = refl
 
   low_wait : (e d n : Bool) (x y z : ℕ) → (d ≡ true → x ≡ y)
-      → (if e && false then z else if e && (d && n) then x else 0) ≡ (if e then (if d && n then y else 0) else 0)
+      → (if e && false then z else (if e && (d && n) then x else 0)) ≡ (if e then (if d && n then y else 0) else 0)
   low_wait true true true x y z h = h refl
   low_wait true true false x y z h = refl
   low_wait true false n x y z h = refl
   low_wait false d n x y z h = refl
 
-  low_silent : (e : Bool) (x y : ℕ) → (if e && false then x else if e && false then y else 0) ≡ 0
+  low_silent : (e : Bool) (x y : ℕ) → (if e && false then x else (if e && false then y else 0)) ≡ 0
   low_silent true x y = refl
   low_silent false x y = refl
 

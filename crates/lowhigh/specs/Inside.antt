@@ -1,7 +1,6 @@
 -- What the functions behind the tables compute. No reader of the rules needs this page. Assumes nothing.
-use Rattle.std.specs.Prelude.{◌≡◌, Bool, true, false, not, ◌&&◌, List, ℕ, ◌+◌, ◌*◌, ◌-◌, ◌%◌, ◌^◌, ◌<◌, ◌≤◌, min, max, ltb, length, get_or, set}
+use Rattle.std.specs.Prelude.{◌≡◌, Bool, true, false, not, ◌&&◌, List, ℕ, ◌+◌, ◌*◌, ◌-◌, ◌%◌, ◌^◌, ◌<◌, ◌≤◌, min, max, ltb, length, get_or, set, if◌then◌else◌}
 use Rattle.points.specs.Sets.{member}
-use Rattle.plan.specs.Choice.{if◌then◌else◌}
 use Rattle.plan.specs.Limits.{most_points, farthest}
 use Rattle.plan.specs.APlan.{ordinary, wait, is, some, gap_of, records_of}
 use Rattle.plan.specs.ReplyNumbers.{check_of}
@@ -53,8 +52,8 @@ wait_says g started a ended = record { shuts = not started; low = if started && 
 unfoldable pub says_of : Record → ℕ → ℕ → ℕ → ℕ → ℕ → Said
 says_of r done x y from a =
     if is ordinary r then ordinary_says (gap_of r.first) (member done r.a) x (member done r.b) y
-    else if is wait r then wait_says (gap_of r.first) (member done from) a (member done r.b)
-    else silent
+    else (if is wait r then wait_says (gap_of r.first) (member done from) a (member done r.b)
+    else silent)
 
 -- what `says_of` stays small with
 pub record Small (r : Record) (x y a : ℕ) : Type 0 where

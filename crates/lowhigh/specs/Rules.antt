@@ -2,9 +2,8 @@
 -- plain values: rs are the plan's records, then the clock, the set of done points and the minute of each. High can be below
 -- zero, so it is kept 100,000 up; where there is none, it is past every minute. `board` says the same words of a board.
 -- Assumes nothing.
-use Rattle.std.specs.Prelude.{Bool, true, false, not, ◌&&◌, ◌||◌, List, [], ◌∷◌, ℕ, ◌+◌, ◌-◌, ◌^◌, min, max, eqb, ltb}
+use Rattle.std.specs.Prelude.{Bool, true, false, not, ◌&&◌, ◌||◌, List, [], ◌∷◌, ℕ, ◌+◌, ◌-◌, ◌^◌, min, max, eqb, ltb, if◌then◌else◌}
 use Rattle.points.specs.Sets.{member}
-use Rattle.plan.specs.Choice.{if◌then◌else◌}
 use Rattle.plan.specs.Limits.{farthest}
 use Rattle.plan.specs.APlan.{ordinary, wait, is, points, watched, link_to, gap_of}
 unfoldable pub use Rattle.plan.specs.APlan.{place_from}
@@ -56,8 +55,8 @@ beside rs done q n = if eqb n 28 && foremans rs done q then holder rs done q els
 abbrev pub earliest : List Record → ℕ → List ℕ → ℕ → Record → ℕ
 earliest rs done minutes q r =
     if eqb r.a q && (is ordinary r && member done r.b) then minute_in minutes r.b + (gap_of r.first).down - (gap_of r.first).up
-    else if eqb r.a q && (is wait r && runs done (link_to rs r.b)) then minute_in minutes (link_to rs r.b).a + (gap_of r.first).up
-    else 0
+    else (if eqb r.a q && (is wait r && runs done (link_to rs r.b)) then minute_in minutes (link_to rs r.b).a + (gap_of r.first).up
+    else 0)
 
 -- the largest of what the records give
 unfoldable pub greatest : (Record → ℕ) → List Record → ℕ

@@ -4,9 +4,8 @@
 
 #![tactic(auto)]
 
-ghost use Rattle.std.specs.Prelude.{◌≡◌, ◌-◌, ◌≤◌, max, min, length};
+ghost use Rattle.std.specs.Prelude.{◌≡◌, ◌-◌, ◌≤◌, max, min, length, if◌then◌else◌};
 ghost use Rattle.points.specs.Sets.{with_of};
-ghost use Rattle.plan.specs.Choice.{if◌then◌else◌};
 ghost use Rattle.plan.specs.Limits.{most_points};
 ghost use Rattle.plan.specs.APlan.{records_of};
 ghost use Rattle.lowhigh.specs.Inside.{last_minute, Near, Given, ordinary_says, wait_says, says_of, Small, said_by, Hearing, raised, lowered, held, TablesOf};

@@ -10,7 +10,7 @@ use Rattle.plan.specs.declared.Reading.{Reading}
 use Rattle.stream.specs.Buffers.{appended}
 use Rattle.stream.specs.Sheets.{read_front}
 use Rattle.saying.specs.Makes.{EventsPut}
-use Rattle.saying.specs.declared.taking.Said.{Said}
+use Rattle.saying.specs.declared.putting.Said.{Said}
 use Rattle.feeding.specs.Parts.{PlanKept, PlanBegun, ReadBegun}
 use Rattle.feeding.specs.Ending.{PartKept, OverPut}
 use Rattle.feeding.proofs.Starting.{last_of}

@@ -1,7 +1,6 @@
 -- The plans that are made of a plan file, given as its bytes s, or of a text, and what is left in a buffer that their files are written into.
 -- Assumes nothing.
-use Rattle.std.specs.Prelude.{◌≡◌, ◌≢◌, List, ℕ, eqb}
-use Rattle.plan.specs.Choice.{if◌then◌else◌}
+use Rattle.std.specs.Prelude.{◌≡◌, ◌≢◌, List, ℕ, eqb, if◌then◌else◌}
 use Rattle.plan.specs.ReplyNumbers.{refusal, read_of, write_of, written_of}
 use Rattle.plan.specs.declared.Reading.{Reading}
 use Rattle.plan.specs.declared.Refusal.{Refusal}

@@ -3,8 +3,7 @@
 
 #![tactic(auto)]
 
-ghost use Rattle.std.specs.Prelude.{◌≡◌};
-ghost use Rattle.plan.specs.Choice.{if◌then◌else◌};
+ghost use Rattle.std.specs.Prelude.{◌≡◌, if◌then◌else◌};
 ghost use Rattle.made_files.specs.Made.{imported_as, import_text, close_file, filed_of, file_left, filed_answer, plan_in, dropped_left, LighterWritten};
 
 use closure::close;

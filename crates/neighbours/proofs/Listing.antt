@@ -10,7 +10,7 @@ use borrow.Author.Tests.{lt-ltb, eq-eqb, ne_eqb, eqb-true}
 use lib.Dec.{eqb, ltb}
 use lib.ListN.{length, get_or, set, replicate, length-set, length-replicate, get_or-replicate}
 use lib.Seq.{get_or-set_same, get_or-set_other}
-use Rattle.plan.specs.Choice.{if◌then◌else◌}
+use Rattle.std.specs.Prelude.{if◌then◌else◌}
 use Rattle.plan.specs.Limits.{most_points, most_records}
 use Rattle.neighbours.specs.Lists.{buckets, list_room, key_of, first_key, places_of, Indexed, chain, entries_of}
 use Rattle.neighbours.proofs.Walking.{chain_end}

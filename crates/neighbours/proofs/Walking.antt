@@ -7,7 +7,7 @@ use native.Mathlib.Omega.{arith}
 use borrow.Author.Tests.{lt-ltb, le-ltb}
 use lib.Dec.{ltb}
 use lib.ListN.{get_or}
-use Rattle.plan.specs.Choice.{if◌then◌else◌}
+use Rattle.std.specs.Prelude.{if◌then◌else◌}
 use Rattle.plan.specs.Limits.{most_records}
 use Rattle.neighbours.specs.Lists.{buckets, start_of, onward_of, chain, entries_of, over, top_at, first_at}
 

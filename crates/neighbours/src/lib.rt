@@ -4,8 +4,7 @@
 
 #![tactic(auto)]
 
-ghost use Rattle.std.specs.Prelude.{◌≡◌, ◌<◌, ◌≤◌, replicate};
-ghost use Rattle.plan.specs.Choice.{if◌then◌else◌};
+ghost use Rattle.std.specs.Prelude.{◌≡◌, ◌<◌, ◌≤◌, replicate, if◌then◌else◌};
 ghost use Rattle.plan.specs.Limits.{most_records};
 ghost use Rattle.rows.specs.Sheet.{width};
 ghost use Rattle.neighbours.specs.Lists.{buckets, list_room, key_of, key_at, start_of, onward_of, Indexed};

@@ -1,6 +1,5 @@
 -- Numbers in four bytes, little-endian as document 01 has them ("Plan file"), and signed numbers. Assumes nothing.
-use Rattle.std.specs.Prelude.{Bool, false, List, [], ◌∷◌, ℕ, ◌+◌, ◌*◌, ◌-◌, ◌/◌, ◌%◌, ◌^◌, eqb, ltb, ℤ, pos, negsuc, get_or}
-use Rattle.numbers.specs.Choice.{if◌then◌else◌}
+use Rattle.std.specs.Prelude.{Bool, false, List, [], ◌∷◌, ℕ, ◌+◌, ◌*◌, ◌-◌, ◌/◌, ◌%◌, ◌^◌, eqb, ltb, ℤ, pos, negsuc, get_or, if◌then◌else◌}
 use Rattle.numbers.specs.declared.Gap.{Gap}
 
 -- the number that the four bytes of s from i on stand for, little-endian

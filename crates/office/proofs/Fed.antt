@@ -9,7 +9,7 @@ use lib.Dec.{eqb}
 use lib.ListN.{length, drop, get_or, replicate, length-append}
 use lib.Seq.{append_snoc}
 use borrow.Author.Tests.{ne_eqb, eqb-true, eqb-false}
-use Rattle.numbers.specs.Choice.{if◌then◌else◌}
+use Rattle.std.specs.Prelude.{if◌then◌else◌}
 use Rattle.numbers.specs.Fits.{All, IsByte}
 use Rattle.records.specs.Records.{blank}
 use Rattle.records.specs.declared.Record.{Record}
@@ -113,7 +113,7 @@ NotBegin Break = Unit {0}
 bare_on : (c : ℕ) → NotBegin (bare_act c)
 bare_on c = go (eqb c comma) (eqb c quote || is_break c)
   where
-    go : (a b : Bool) → NotBegin (if a then Cut else if b then Break else Keep Bare)
+    go : (a b : Bool) → NotBegin (if a then Cut else (if b then Break else Keep Bare))
     go true b = tt
     go false true = tt
     go false false = refl
@@ -127,13 +127,13 @@ goes_on_lem Begin c = go (eqb c quote)
 goes_on_lem Bare c = bare_on c
 goes_on_lem Quoted c = go (eqb c quote) (is_break c)
   where
-    go : (a b : Bool) → NotBegin (if a then Skip Closed else if b then Break else Keep Quoted)
+    go : (a b : Bool) → NotBegin (if a then Skip Closed else (if b then Break else Keep Quoted))
     go true b = refl
     go false true = tt
     go false false = refl
 goes_on_lem Closed c = go (eqb c quote) (eqb c comma)
   where
-    go : (a b : Bool) → NotBegin (if a then Keep Quoted else if b then Cut else Break)
+    go : (a b : Bool) → NotBegin (if a then Keep Quoted else (if b then Cut else Break))
     go true b = refl
     go false true = tt
     go false false = tt

@@ -10,7 +10,7 @@ use lib.Dec.{eqb}
 use lib.ListN.{length, get_or, length-append, length-map}
 use lib.Seq.{append_snoc}
 use borrow.Author.Tests.{eqb-true}
-use Rattle.numbers.specs.Choice.{if◌then◌else◌}
+use Rattle.std.specs.Prelude.{if◌then◌else◌}
 use Rattle.numbers.specs.Fits.{All}
 use Rattle.values.proofs.Tests.{both}
 use Rattle.values.proofs.Fit.{kind_fits, point_fits, number_fits, code_fits}
@@ -43,7 +43,7 @@ unfolding row_of
 row_good fs r e = go (eqb (length fs) 6) refl (readable fs) refl (is_code (column 5 fs)) refl e
   where
     go : (a : Bool) → eqb (length fs) 6 ≡ a → (b : Bool) → readable fs ≡ b → (c : Bool) → is_code (column 5 fs) ≡ c
-        → (if not a then bad 41 else if not b then bad 42 else if not c then bad 43 else good (record_of fs)) ≡ good r
+        → (if not a then bad 41 else (if not b then bad 42 else (if not c then bad 43 else good (record_of fs)))) ≡ good r
         → (length fs ≡ 6) × (readable fs ≡ true) × (is_code (column 5 fs) ≡ true) × (r ≡ record_of fs)
     go true p true q true s e = (eqb-true (length fs) 6 p, q, s, cc)
     go true p true q false s e = absurd (let z : ◌≡◌ {A = ℕ} 0 1 = cc in omega arith)
@@ -66,7 +66,7 @@ unfolding row_of
 bad_number broken n e = let z : 40 ≡ n = cc in (omega arith, omega arith)
 bad_number (columns fs) n e = go (eqb (length fs) 6) (readable fs) (is_code (column 5 fs)) e
   where
-    go : (a b c : Bool) → (if not a then bad 41 else if not b then bad 42 else if not c then bad 43 else good (record_of fs)) ≡ bad n → (40 ≤ n) × (n ≤ 43)
+    go : (a b c : Bool) → (if not a then bad 41 else (if not b then bad 42 else (if not c then bad 43 else good (record_of fs)))) ≡ bad n → (40 ≤ n) × (n ≤ 43)
     go true true true e = absurd (let z : ◌≡◌ {A = ℕ} 0 1 = cc in omega arith)
     go true true false e = let z : 43 ≡ n = cc in (omega arith, omega arith)
     go true false c e = let z : 42 ≡ n = cc in (omega arith, omega arith)
@@ -240,7 +240,7 @@ other_shape : (fs : List (List ℕ)) → is_code (column 5 fs) ≡ false → (n 
 unfolding row_of
 other_shape fs e = rw e (go (eqb (length fs) 6) (readable fs))
   where
-    go : (a b : Bool) → (n : ℕ) × ((if not a then bad 41 else if not b then bad 42 else bad 43) ≡ bad n)
+    go : (a b : Bool) → (n : ℕ) × ((if not a then bad 41 else (if not b then bad 42 else bad 43)) ≡ bad n)
     go true true = (43, refl)
     go true false = (42, refl)
     go false b = (41, refl)

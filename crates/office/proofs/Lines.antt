@@ -8,7 +8,7 @@ use lib.Dec.{eqb}
 use lib.ListN.{length, drop}
 use lib.Seq.{drop-length}
 use borrow.Author.Tests.{ne_eqb, eqb-true}
-use Rattle.numbers.specs.Choice.{if◌then◌else◌}
+use Rattle.std.specs.Prelude.{if◌then◌else◌}
 use Rattle.values.proofs.Tests.{both}
 use Rattle.fields.specs.Quoting.{cr, lf}
 use Rattle.fields.specs.Inside.{ends_line}

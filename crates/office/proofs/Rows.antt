@@ -6,7 +6,7 @@ use Prim.Native.Nat.{ℕ, ◌+◌, ◌-◌, ◌%◌, ◌≤◌, min}
 use native.Mathlib.Omega.{arith}
 use lib.ListN.{length, replicate, length-map, length-append}
 use borrow.Author.Tests.{ne_eqb}
-use Rattle.numbers.specs.Choice.{if◌then◌else◌}
+use Rattle.std.specs.Prelude.{if◌then◌else◌}
 use Rattle.numbers.specs.Fits.{All, IsByte}
 use Rattle.values.specs.Inside.{fresh, with_all}
 use Rattle.values.specs.declared.Seen.{Seen}
@@ -60,7 +60,7 @@ module _ (k a b x y p : List ℕ) (hk : All IsByte k) (ha : All IsByte a) (hb : 
   six_line = rw (six_readable, says_code p (seen_of p) (tells_all p hp) hp) (go (readable six) refl (is_code p) refl)
     where
       go : (t : Bool) → readable six ≡ t → (u : Bool) → is_code p ≡ u
-          → (if not t then Bad 42 else if not u then Bad 43 else Good (record_in (map seen_of six))) ≡ as_line (if not t then bad 42 else if not u then bad 43 else good (record_of six))
+          → (if not t then Bad 42 else (if not u then Bad 43 else Good (record_in (map seen_of six)))) ≡ as_line (if not t then bad 42 else (if not u then bad 43 else good (record_of six)))
       go false e u c = refl
       go true e false c = refl
       go true e true c = ap Good (six_record e c)

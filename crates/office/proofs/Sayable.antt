@@ -11,7 +11,7 @@ use lib.ListN.{length, get_or, length-append}
 use lib.Signed.{mag}
 use lib.Seq.{append_snoc}
 use borrow.Author.Tests.{ne_eqb, lt-ltb, le-leb, leb-true, eqb-true, eqb-false}
-use Rattle.numbers.specs.Choice.{if◌then◌else◌}
+use Rattle.std.specs.Prelude.{if◌then◌else◌}
 use Rattle.numbers.specs.Fits.{All}
 use Rattle.values.specs.Values.{is_empty, is_digit, all_digits, value_from, is_number, number_of, is_point, point_of, is_code, code_of, same, is_kind, kind_of}
 use Rattle.values.proofs.Tells.{digits_snoc, value_snoc}
@@ -187,7 +187,7 @@ worded k h = go (eqb k 1) refl (eqb k 2) refl (eqb k 3) refl (eqb k 4) refl h
     four = record { plain = (up refl, (up refl, (up refl, (up refl, tt)))); known = refl; says = refl }
 
     go : (a : Bool) → eqb k 1 ≡ a → (b : Bool) → eqb k 2 ≡ b → (c : Bool) → eqb k 3 ≡ c → (d : Bool) → eqb k 4 ≡ d
-        → is_known (if a then records.point else if b then records.link else if c then records.ordinary else if d then records.wait else records.unknown) ≡ true → Worded k
+        → is_known (if a then records.point else (if b then records.link else (if c then records.ordinary else (if d then records.wait else records.unknown)))) ≡ true → Worded k
     go true p b q c r d s h = rw (eqb-true k 1 p) one
     go false p true q c r d s h = rw (eqb-true k 2 q) two
     go false p false q true r d s h = rw (eqb-true k 3 r) three

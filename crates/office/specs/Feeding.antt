@@ -1,7 +1,6 @@
 -- A text that comes in pieces: what it answers where it ends, by what is known of it, which `office_text` states and this page hands on.
 -- That this is `import_of` of the pieces together is a theorem (proofs/Fed). Assumes nothing.
-use Rattle.std.specs.Prelude.{eqb}
-use Rattle.numbers.specs.Choice.{if◌then◌else◌}
+use Rattle.std.specs.Prelude.{eqb, if◌then◌else◌}
 use Rattle.plan.specs.ReplyNumbers.{refusal}
 use Rattle.office.specs.Sheets.{refused}
 use Rattle.office.specs.Inside.{judged}

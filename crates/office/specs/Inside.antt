@@ -1,7 +1,6 @@
 -- What the functions behind `feed` and `finish` answer: a line by what is kept of its columns, which `cells` states, and the plan that the records make.
 -- A reader of the rules can leave this page out. Assumes nothing.
-use Rattle.std.specs.Prelude.{List, [], ◌∷◌, ℕ, suc, ◌+◌, min, eqb}
-use Rattle.numbers.specs.Choice.{if◌then◌else◌}
+use Rattle.std.specs.Prelude.{List, [], ◌∷◌, ℕ, suc, ◌+◌, min, eqb, if◌then◌else◌}
 use Rattle.records.specs.declared.Record.{Record}
 use Rattle.plan.specs.Limits.{most_records}
 use Rattle.plan.specs.ReplyNumbers.{check_of}

@@ -1,6 +1,5 @@
 -- A text that says a plan: a line for each record, numbers with all their places, and CR LF behind each line. Assumes nothing.
-use Rattle.std.specs.Prelude.{List, [], ◌∷◌, ◌++◌, ℕ, zero, suc, ◌+◌, ◌/◌, ◌%◌, eqb, ℤ, pos, negsuc}
-use Rattle.numbers.specs.Choice.{if◌then◌else◌}
+use Rattle.std.specs.Prelude.{List, [], ◌∷◌, ◌++◌, ℕ, zero, suc, ◌+◌, ◌/◌, ◌%◌, eqb, ℤ, pos, negsuc, if◌then◌else◌}
 use Rattle.records.specs.declared.Record.{Record}
 use Rattle.values.specs.Values.{point_word, link_word, ordinary_word, wait_word}
 use Rattle.values.specs.Codes.{code_text}
@@ -14,9 +13,9 @@ places_of (suc w) n = places_of w (n / 10) ++ ((48 + n % 10) ∷ [])
 abbrev pub word_text : ℕ → List ℕ
 word_text k =
     if eqb k 1 then point_word
-    else if eqb k 2 then link_word
-    else if eqb k 3 then ordinary_word
-    else wait_word
+    else (if eqb k 2 then link_word
+    else (if eqb k 3 then ordinary_word
+    else wait_word))
 
 abbrev pub number_text : ℤ → List ℕ
 number_text (pos n) = places_of 10 n

@@ -1,7 +1,6 @@
 -- Document 02, §1: what importing a text answers. A line's fields are those of RFC 4180 (`fields`), and what a field says is handed
 -- on from `values`. Number 0 is no number of the document: it says that nothing is refused. Assumes nothing.
-use Rattle.std.specs.Prelude.{Bool, false, ◌&&◌, not, List, [], ◌∷◌, ◌++◌, map, ℕ, eqb, length, drop, get_or}
-use Rattle.numbers.specs.Choice.{if◌then◌else◌}
+use Rattle.std.specs.Prelude.{Bool, false, ◌&&◌, not, List, [], ◌∷◌, ◌++◌, map, ℕ, eqb, length, drop, get_or, if◌then◌else◌}
 use Rattle.records.specs.declared.Record.{Record}
 use Rattle.plan.specs.APlan.{plan_of}
 use Rattle.plan.specs.ReplyNumbers.{refusal, check_of}
@@ -69,9 +68,9 @@ unfoldable pub row_of : Columns → Row
 row_of broken = bad 40
 row_of (columns fs) =
     if not (eqb (length fs) 6) then bad 41
-    else if not (readable fs) then bad 42
-    else if not (is_code (column 5 fs)) then bad 43
-    else good (record_of fs)
+    else (if not (readable fs) then bad 42
+    else (if not (is_code (column 5 fs)) then bad 43
+    else good (record_of fs)))
 
 -- a line's record or number
 abbrev pub line_row : List ℕ → Row

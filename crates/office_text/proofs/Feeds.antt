@@ -9,7 +9,7 @@ use lib.Dec.{eqb}
 use lib.ListN.{length, set, drop, get_or, replicate, drop_of_length-le}
 use lib.Seq.{drop-cons, drop-drop}
 use borrow.Author.Tests.{ne_eqb}
-use Rattle.numbers.specs.Choice.{if◌then◌else◌}
+use Rattle.std.specs.Prelude.{if◌then◌else◌}
 use Rattle.records.specs.declared.Record.{Record}
 use Rattle.records.specs.Limits.{most_records}
 use Rattle.values.specs.Inside.{fresh, code_in}
@@ -44,7 +44,7 @@ bad_line : (k : ℕ) (cells : List Seen) (m : ℕ) → line_by k cells ≡ Bad m
 unfolding line_by
 bad_line k cells m e z = go (eqb k 5) (readable_in cells) (code_in (cell 5 cells)) e
   where
-    go : (a b c : Bool) → (if not a then Bad 41 else if not b then Bad 42 else if not c then Bad 43 else Good (record_in cells)) ≡ Bad m → ⊥
+    go : (a b c : Bool) → (if not a then Bad 41 else (if not b then Bad 42 else (if not c then Bad 43 else Good (record_in cells)))) ≡ Bad m → ⊥
     go false b c e = let q : 41 ≡ m = cc in omega arith
     go true false c e = let q : 42 ≡ m = cc in omega arith
     go true true false e = let q : 43 ≡ m = cc in omega arith

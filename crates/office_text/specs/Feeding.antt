@@ -1,8 +1,7 @@
 -- A text that comes in pieces, cut anywhere, also between a CR and its LF: what is known of it so far, with a byte more, and with a last
 -- line that lacks its end. What that answers is office/specs/Feeding, and that it is `import_of` of the pieces together a theorem
 -- (office/proofs/Fed). Assumes nothing.
-use Rattle.std.specs.Prelude.{Bool, ◌&&◌, ◌||◌, not, List, [], ◌∷◌, ◌++◌, ℕ, ◌+◌, ◌%◌, min, eqb, set, replicate}
-use Rattle.numbers.specs.Choice.{if◌then◌else◌}
+use Rattle.std.specs.Prelude.{Bool, ◌&&◌, ◌||◌, not, List, [], ◌∷◌, ◌++◌, ℕ, ◌+◌, ◌%◌, min, eqb, set, replicate, if◌then◌else◌}
 use Rattle.records.specs.Limits.{most_records}
 use Rattle.records.specs.Records.{blank}
 use Rattle.records.specs.declared.Record.{Record}
@@ -88,5 +87,5 @@ is_done f = not (eqb f.number 0) || (is_at_begin f.spot && eqb f.commas 0)
 unfoldable pub last_of : Feeding → Feeding
 last_of f =
     if is_done f then f
-    else if may_end f.spot then lined f.lines f.records (line_by f.commas (cells_with f.commas f.cells f.spot.seen))
-    else stopped 40 f.lines
+    else (if may_end f.spot then lined f.lines f.records (line_by f.commas (cells_with f.commas f.cells f.spot.seen))
+    else stopped 40 f.lines)

@@ -10,7 +10,7 @@ use lib.Dec.{ltb}
 use lib.ListN.{length, take, get_or, length-append}
 use lib.Seq.{append_snoc, take-append_seam, get_or-append_seam}
 use borrow.Author.Tests.{ltb-true, ltb-false, lt-ltb, eqb-true, eq-eqb, ne_eqb}
-use Rattle.plan.specs.Choice.{if◌then◌else◌}
+use Rattle.std.specs.Prelude.{if◌then◌else◌}
 use Rattle.plan.specs.Limits.{most_ordinary, records_with, record_bytes}
 use Rattle.plan.specs.APlan.{Kind, point, link, ordinary, wait, unknown, kind_of, is, one, how_many, blank}
 use Rattle.plan.specs.PlanFile.{Entry}
@@ -28,7 +28,7 @@ use Rattle.rules.proofs.Shows.{kind_byte}
 
 -- the rules up to 6, where 6 is kept or not, and what the others say
 abbrev upto_6 : (known order room : Bool) → ℕ → ℕ
-upto_6 known order room rest = if not known then 4 else if not order then 5 else if not room then 6 else rest
+upto_6 known order room rest = if not known then 4 else (if not order then 5 else (if not room then 6 else rest))
 
 -- a record that is accepted is accepted where there is room at least where there was
 more : (a o c d : Bool) (x : ℕ) → (c ≡ true → d ≡ true) → upto_6 a o c x ≡ 0 → upto_6 a o d x ≡ 0

@@ -7,7 +7,7 @@ use native.Mathlib.Omega.{arith}
 use lib.Dec.{eqb}
 use lib.ListN.{length, drop}
 use borrow.Author.Tests.{ne_eqb, eqb-true}
-use Rattle.numbers.specs.Choice.{if◌then◌else◌}
+use Rattle.std.specs.Prelude.{if◌then◌else◌}
 use Rattle.phrases.specs.Phrases.{is_lf, is_cr, in_first, cut, begins_lf, unless, without_crs, lines_of}
 use Rattle.phrases.specs.Inside.{line_end, first_line}
 
@@ -38,11 +38,11 @@ pub data Left (s : List ℕ) : Type 0 where
   more : lines_of s ≡ first_line s ∷ lines_of (drop (line_end 0 s) s) → Left s
 
 -- the lines from a byte on, by its tests
-by_tests_lem : (c : ℕ) (s : List ℕ) → lines_of (c ∷ s) ≡ (if is_cr c && begins_lf s then lines_of s else if is_lf c then [] ∷ lines_of s else in_first c (lines_of s))
+by_tests_lem : (c : ℕ) (s : List ℕ) → lines_of (c ∷ s) ≡ (if is_cr c && begins_lf s then lines_of s else (if is_lf c then [] ∷ lines_of s else in_first c (lines_of s)))
 unfolding cut without_crs
 by_tests_lem c s = go (is_cr c && begins_lf s)
   where
-    go : (r : Bool) → cut is_lf (unless r c (without_crs s)) ≡ (if r then lines_of s else if is_lf c then [] ∷ lines_of s else in_first c (lines_of s))
+    go : (r : Bool) → cut is_lf (unless r c (without_crs s)) ≡ (if r then lines_of s else (if is_lf c then [] ∷ lines_of s else in_first c (lines_of s)))
     go true = refl
     go false = refl
 

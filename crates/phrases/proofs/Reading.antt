@@ -10,7 +10,7 @@ use lib.Dec.{eqb}
 use lib.ListN.{length, get_or, drop, length-drop}
 use lib.Seq.{drop-drop}
 use borrow.Author.Tests.{eq-eqb, ne_eqb, eqb-true}
-use Rattle.numbers.specs.Choice.{if◌then◌else◌}
+use Rattle.std.specs.Prelude.{if◌then◌else◌}
 use Rattle.numbers.specs.Fits.{All, IsByte}
 use Rattle.values.specs.Values.{is_empty}
 use Rattle.values.proofs.Tests.{both}
@@ -46,7 +46,7 @@ neither false b e = (refl, e)
 
 -- the pieces from a byte on, by its tests
 abbrev by_tests : Bool → Bool → Bool → Bool → ℕ → List (List ℕ) → List (List ℕ)
-by_tests l r h b c ps = if l then [] ∷ [] else if r then ps else if h then [] ∷ [] else if b then [] ∷ ps else in_first c ps
+by_tests l r h b c ps = if l then [] ∷ [] else (if r then ps else (if h then [] ∷ [] else (if b then [] ∷ ps else in_first c ps)))
 
 by_tests_lem : (c : ℕ) (s : List ℕ) → pieces (c ∷ s) ≡ by_tests (is_lf c) (is_cr c && begins_lf s) (is_hash c) (is_blank c) c (pieces s)
 unfolding cut uncommented first_line

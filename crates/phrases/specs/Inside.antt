@@ -1,7 +1,6 @@
 -- What the functions keep of a word while its bytes go by, how they go over a line's words, and what they answer by it. A reader of
 -- the rules can leave this page out: the open functions' contracts above this room do not cite it. Assumes nothing.
-use Rattle.std.specs.Prelude.{Bool, true, false, ◌&&◌, ◌||◌, not, List, [], ◌∷◌, ℕ, suc, ◌+◌, ◌%◌, eqb, ltb}
-use Rattle.numbers.specs.Choice.{if◌then◌else◌}
+use Rattle.std.specs.Prelude.{Bool, true, false, ◌&&◌, ◌||◌, not, List, [], ◌∷◌, ℕ, suc, ◌+◌, ◌%◌, eqb, ltb, if◌then◌else◌}
 use Rattle.points.specs.Sets.{member, with_of}
 use Rattle.values.specs.Inside.{fresh, with, word_in, kind_in}
 use Rattle.values.specs.declared.Seen.{Seen}
@@ -77,9 +76,9 @@ first_line (c ∷ s) = if is_lf c then [] else unless (is_cr c && begins_lf s) c
 unfoldable pub kind_by : Seen → ℕ
 kind_by s =
     if not (eqb (kind_in s) 0) then kind_in s
-    else if word_in 4 0x6d61726b s then 5
-    else if word_in 5 0x6576656e74 s then 6
-    else 0
+    else (if word_in 4 0x6d61726b s then 5
+    else (if word_in 5 0x6576656e74 s then 6
+    else 0))
 
 abbrev pub none_in : Seen → Bool
 none_in s = word_in 4 0x6e6f6e65 s

@@ -1,7 +1,6 @@
 -- A listing, typed by people: the text as its lines, a line as its words, and what a word says. Texts are bytes, ASCII codes.
 -- Assumes nothing.
-use Rattle.std.specs.Prelude.{Bool, true, false, ◌&&◌, ◌||◌, not, List, [], ◌∷◌, ℕ, ◌%◌, eqb, ltb}
-use Rattle.numbers.specs.Choice.{if◌then◌else◌}
+use Rattle.std.specs.Prelude.{Bool, true, false, ◌&&◌, ◌||◌, not, List, [], ◌∷◌, ℕ, ◌%◌, eqb, ltb, if◌then◌else◌}
 use Rattle.points.specs.Sets.{member, with_of}
 use Rattle.values.specs.Ascii.{ascii}
 use Rattle.values.specs.Values as values
@@ -74,9 +73,9 @@ words_of l = filled (cut is_blank (uncommented l))
 unfoldable pub kind_of : List ℕ → ℕ
 kind_of f =
     if not (eqb (values.kind_of f) 0) then values.kind_of f
-    else if same f (ascii "mark") then 5
-    else if same f (ascii "event") then 6
-    else 0
+    else (if same f (ascii "mark") then 5
+    else (if same f (ascii "event") then 6
+    else 0))
 
 -- decimal digits, at least one, of a number below n: zeros in front change nothing, and there is no sign
 abbrev pub is_below : ℕ → List ℕ → Bool

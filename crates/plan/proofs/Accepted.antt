@@ -12,7 +12,7 @@ use lib.ListN.{length, get_or, length-append, get_or-append}
 use lib.Seq.{append_snoc, get_or-append_seam}
 use borrow.Author.Tests.{ltb-true, leb-true, eqb-true, eqb-false, eq-eqb, ne_eqb, not-true}
 use native.Mathlib.Decide.{dec_lt}
-use Rattle.plan.specs.Choice.{if◌then◌else◌}
+use Rattle.std.specs.Prelude.{if◌then◌else◌}
 use Rattle.plan.specs.Limits.{most_points, most_records, farthest}
 use Rattle.plan.specs.APlan.{Kind, point, link, ordinary, wait, unknown, kind_of, byte_of, is, one, how_many, some, points, watched, ends_at, from_to, first_that, link_to, blank, gap_of, records_of}
 use Rattle.plan.specs.ReplyNumbers.{after, is_known, last_kind, number_of, first_bad, first_bad_with, refusal, check_of, check_with}

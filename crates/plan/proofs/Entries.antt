@@ -6,7 +6,7 @@ use Prim.Native.Nat.{ℕ}
 use native.Mathlib.Omega.{arith}
 use lib.Dec.{eqb}
 use borrow.Author.Tests.{eqb-true, not-false}
-use Rattle.plan.specs.Choice.{if◌then◌else◌}
+use Rattle.std.specs.Prelude.{if◌then◌else◌}
 use Rattle.plan.specs.APlan.{Kind, point, link, ordinary, wait, unknown}
 use Rattle.plan.specs.PlanFile.{Entry}
 use Rattle.plan.specs.ReplyNumbers.{Before, is_nought, is_known, in_order, room_for_with, zeros, number_for_with, number_with, after, accepted, first_bad_with}

@@ -14,7 +14,7 @@ use Rattle.numbers.specs.Numbers.{word_at, signed_of}
 use Rattle.numbers.proofs.Words.{byte, word_fits}
 use Rattle.records.specs.Bytes.{record_in}
 use Rattle.records.specs.declared.Record.{Record}
-use Rattle.plan.specs.Choice.{if◌then◌else◌}
+use Rattle.std.specs.Prelude.{if◌then◌else◌}
 use Rattle.plan.specs.Limits.{most_ordinary, most_records, record_bytes}
 use Rattle.plan.specs.APlan.{blank, plan_of}
 use Rattle.plan.specs.PlanFile.{Entry, entries_in}
@@ -83,7 +83,7 @@ read_held s b = go (eqb (length s) 0) (not (eqb (length s % record_bytes) 0)) (l
     bad = first_bad_with most_ordinary [] es
 
     go : (x y z : Bool) → ltb most_records n ≡ z → (t : Bool)
-        → HeldPlan (if x then refused (refusal 1 0) else if y then refused (refusal 2 0) else if z then refused (refusal 3 0) else if t then taken (records_in es) else refused bad).plan
+        → HeldPlan (if x then refused (refusal 1 0) else (if y then refused (refusal 2 0) else (if z then refused (refusal 3 0) else (if t then taken (records_in es) else refused bad)))).plan
     go true y z e t = none_held
     go false true z e t = none_held
     go false false true e t = none_held

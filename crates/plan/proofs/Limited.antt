@@ -9,7 +9,7 @@ use lib.Dec.{eqb, ltb}
 use lib.ListN.{length, drop, length-map}
 use lib.Seq.{take-append_seam}
 use borrow.Author.Tests.{eqb-true, eqb-false, ltb-false, not-false, ne_eqb, le-ltb}
-use Rattle.plan.specs.Choice.{if◌then◌else◌}
+use Rattle.std.specs.Prelude.{if◌then◌else◌}
 use Rattle.plan.specs.Limits.{records_with, record_bytes}
 use Rattle.plan.specs.APlan.{records_of, plan_of}
 use Rattle.plan.specs.PlanFile.{Entry, entries_in, file_of}
@@ -27,8 +27,8 @@ records_in es = map (λ (e : Entry). e.what) es
 abbrev pub verdict : ℕ → ℕ → List Entry → Refusal
 verdict m n es =
     if eqb n 0 then refusal 1 0
-    else if ltb (records_with m) n then refusal 3 0
-    else first_bad_with m [] es
+    else (if ltb (records_with m) n then refusal 3 0
+    else first_bad_with m [] es)
 
 abbrev pub answer : Refusal → List Record → Reading
 answer x rs = if eqb x.number 0 then taken rs else refused x
@@ -66,8 +66,8 @@ read_whole m n s l =
     rw (l, r, q, no_records n) (go (eqb n 0) (ltb (records_with m) n))
   where
     go : (a b : Bool)
-        → (if a then refused (refusal 1 0) else if b then refused (refusal 3 0) else read_entries_with m (entries_in n s))
-        ≡ answer (if a then refusal 1 0 else if b then refusal 3 0 else first_bad_with m [] (entries_in n s)) (records_in (entries_in n s))
+        → (if a then refused (refusal 1 0) else (if b then refused (refusal 3 0) else read_entries_with m (entries_in n s)))
+        ≡ answer (if a then refusal 1 0 else (if b then refusal 3 0 else first_bad_with m [] (entries_in n s))) (records_in (entries_in n s))
     go true b = refl
     go false true = refl
     go false false = refl

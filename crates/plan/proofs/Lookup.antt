@@ -8,7 +8,7 @@ use native.Mathlib.Omega.{arith}
 use native.Mathlib.Numerals.{add-one}
 use lib.ListN.{length, take, drop, get_or, length-take, drop_of_length-le}
 use lib.Seq.{take-suc, drop-cons, take_all}
-use Rattle.plan.specs.Choice.{if◌then◌else◌}
+use Rattle.std.specs.Prelude.{if◌then◌else◌}
 use Rattle.plan.specs.APlan.{blank, one, how_many, some, place_from}
 use Rattle.plan.proofs.Records.{many_snoc}
 use Rattle.records.proofs.Records.{many_le}

@@ -11,7 +11,7 @@ use lib.Dec.{eqb, ltb}
 use lib.ListN.{length, take, drop}
 use lib.Seq.{length-take-le, take_at}
 use borrow.Author.Tests.{eqb-true}
-use Rattle.plan.specs.Choice.{if◌then◌else◌}
+use Rattle.std.specs.Prelude.{if◌then◌else◌}
 use Rattle.plan.specs.Limits.{most_ordinary, most_records, record_bytes}
 use Rattle.plan.specs.APlan.{records_of, plan_of}
 use Rattle.plan.specs.PlanFile.{entries_in, file_of}
@@ -81,7 +81,7 @@ unfolding write_with
 written p out e = go (eqb (check_of p).number 0) refl e
   where
     go : (b : Bool) → eqb (check_of p).number 0 ≡ b
-        → (if not b then check_of p else if ltb (length out) (record_bytes * p.count) then refusal 12 0 else accepted).number ≡ 0
+        → (if not b then check_of p else (if ltb (length out) (record_bytes * p.count) then refusal 12 0 else accepted)).number ≡ 0
         → (check_of p).number ≡ 0
     go true t e = eqb-true _ 0 t
     go false t e = e

@@ -10,7 +10,7 @@ use lib.Dec.{eqb}
 use lib.ListN.{length, take, drop, get_or, set, replicate, length-map, drop_of_length-le}
 use lib.Seq.{take-suc, drop-cons, length-take-le, set-get_or}
 use borrow.Author.Tests.{eqb-true, ne_eqb}
-use Rattle.plan.specs.Choice.{if◌then◌else◌}
+use Rattle.std.specs.Prelude.{if◌then◌else◌}
 use Rattle.plan.specs.Limits.{most_points, most_records}
 use Rattle.plan.specs.APlan.{point, link, ordinary, wait, is, blank}
 use Rattle.plan.specs.PlanFile.{Entry}

@@ -1,9 +1,8 @@
 -- Document 01, "A plan": the records of a plan, and the plan that some records make. A plan is the list of its records in file
 -- order, and unused room counts for nothing. What some records say of the points is handed on from `records`, and what a
 -- signed number adds and takes away from `numbers`. Assumes nothing.
-use Rattle.std.specs.Prelude.{Bool, List, [], ◌∷◌, ◌++◌, ℕ, suc, ◌-◌, length, take, replicate}
+use Rattle.std.specs.Prelude.{Bool, List, [], ◌∷◌, ◌++◌, ℕ, suc, ◌-◌, length, take, replicate, if◌then◌else◌}
 use Rattle.records.specs.declared.Record.{Record}
-use Rattle.plan.specs.Choice.{if◌then◌else◌}
 use Rattle.plan.specs.Limits.{most_records}
 use Rattle.plan.specs.declared.Plan.{Plan}
 use Rattle.plan.specs.declared.Found.{Found}

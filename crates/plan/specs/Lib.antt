@@ -1,6 +1,5 @@
 -- What a reader has to believe of plans, in the order of document 01: the limits and the reply numbers, a plan, its
 -- file, and what reading, checking and writing answer. No proofs are here.
-pub mod Choice
 pub mod Limits
 pub mod APlan
 pub mod PlanFile

@@ -1,8 +1,7 @@
 -- Document 01, "Reply numbers", 1 to 12: what reading, checking and writing answer. What one record is refused for, 4 to 11 and 15, is
 -- handed on from `rules`. Number 0 is no number of the document: it says that nothing is refused. Assumes nothing.
-use Rattle.std.specs.Prelude.{not, List, [], ◌∷◌, ◌++◌, map, ℕ, ◌*◌, ◌/◌, ◌%◌, eqb, ltb, length, drop}
+use Rattle.std.specs.Prelude.{not, List, [], ◌∷◌, ◌++◌, map, ℕ, ◌*◌, ◌/◌, ◌%◌, eqb, ltb, length, drop, if◌then◌else◌}
 use Rattle.records.specs.declared.Record.{Record}
-use Rattle.plan.specs.Choice.{if◌then◌else◌}
 use Rattle.plan.specs.Limits.{most_ordinary, records_with, record_bytes}
 use Rattle.plan.specs.APlan.{records_of, plan_of}
 use Rattle.plan.specs.PlanFile.{Entry, entries_in, file_of}
@@ -49,9 +48,9 @@ read_entries_with m es =
 unfoldable pub read_with : ℕ → List ℕ → Reading
 read_with m s =
     if eqb (length s) 0 then refused (refusal 1 0)
-    else if not (eqb (length s % record_bytes) 0) then refused (refusal 2 0)
-    else if ltb (records_with m) (length s / record_bytes) then refused (refusal 3 0)
-    else read_entries_with m (entries_in (length s / record_bytes) s)
+    else (if not (eqb (length s % record_bytes) 0) then refused (refusal 2 0)
+    else (if ltb (records_with m) (length s / record_bytes) then refused (refusal 3 0)
+    else read_entries_with m (entries_in (length s / record_bytes) s)))
 
 abbrev pub read_of : List ℕ → Reading
 read_of s = read_with most_ordinary s
@@ -60,8 +59,8 @@ read_of s = read_with most_ordinary s
 unfoldable pub check_with : ℕ → Plan → Refusal
 check_with m p =
     if eqb p.count 0 then refusal 1 0
-    else if ltb (records_with m) p.count then refusal 3 0
-    else first_bad_with m [] (map (λ (r : Record). record { what = r; reserved = 0 }) (records_of p))
+    else (if ltb (records_with m) p.count then refusal 3 0
+    else first_bad_with m [] (map (λ (r : Record). record { what = r; reserved = 0 }) (records_of p)))
 
 abbrev pub check_of : Plan → Refusal
 check_of p = check_with most_ordinary p
@@ -70,8 +69,8 @@ check_of p = check_with most_ordinary p
 unfoldable pub write_with : ℕ → Plan → List ℕ → Refusal
 write_with m p out =
     if not (eqb (check_with m p).number 0) then check_with m p
-    else if ltb (length out) (record_bytes * p.count) then refusal 12 0
-    else accepted
+    else (if ltb (length out) (record_bytes * p.count) then refusal 12 0
+    else accepted)
 
 abbrev pub write_of : Plan → List ℕ → Refusal
 write_of p out = write_with most_ordinary p out

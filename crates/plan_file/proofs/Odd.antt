@@ -9,7 +9,7 @@ use native.Mathlib.Omega.{arith}
 use lib.Dec.{eqb, ltb}
 use lib.ListN.{length, length-append, length-map}
 use borrow.Author.Tests.{eqb-true, eqb-false, eq-eqb, ne_eqb, lt-ltb, le-ltb}
-use Rattle.plan.specs.Choice.{if◌then◌else◌}
+use Rattle.std.specs.Prelude.{if◌then◌else◌}
 use Rattle.plan.specs.Limits.{most_ordinary, most_records}
 use Rattle.plan.specs.APlan.{plan_of, Kind, point, link, ordinary, wait, unknown, kind_of}
 use Rattle.plan.specs.PlanFile.{Entry}
@@ -41,12 +41,12 @@ module _ (m : ℕ) (k : Kind) (b : Before) (r : Record) where
   abbrev others : ℕ → ℕ
   others z =
       if not (zeros k r z) then 7
-      else if not (named b k r) then 8
-      else if not (apart k r) then 9
-      else if not (single b k r) then 15
-      else if not (joined b k r) then 10
-      else if not (bounded b k r) then 11
-      else 0
+      else (if not (named b k r) then 8
+      else (if not (apart k r) then 9
+      else (if not (single b k r) then 15
+      else (if not (joined b k r) then 10
+      else (if not (bounded b k r) then 11
+      else 0)))))
 
   others_late : Late (others 0)
   others_late =

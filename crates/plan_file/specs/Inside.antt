@@ -1,8 +1,7 @@
 -- What the functions behind `read` compute. A reader of the rules can leave this page out: the open functions' contracts do not cite
 -- it. Assumes nothing.
-use Rattle.std.specs.Prelude.{not, ◌&&◌, ◌||◌, List, [], ◌∷◌, ℕ, suc, eqb, ltb}
+use Rattle.std.specs.Prelude.{not, ◌&&◌, ◌||◌, List, [], ◌∷◌, ℕ, suc, eqb, ltb, if◌then◌else◌}
 use Rattle.records.specs.declared.Record.{Record}
-use Rattle.plan.specs.Choice.{if◌then◌else◌}
 use Rattle.plan.specs.PlanFile.{Entry, entries_in}
 use Rattle.plan.specs.ReplyNumbers.{refusal}
 use Rattle.plan.specs.Inside.{whats}

@@ -8,7 +8,7 @@ use native.Mathlib.Omega.{arith}
 use lib.Dec.{eqb}
 use borrow.Author.Tests.{eq-eqb, ne_eqb}
 use Rattle.points.specs.Sets.{below_of}
-use Rattle.plan.specs.Choice.{if◌then◌else◌}
+use Rattle.std.specs.Prelude.{if◌then◌else◌}
 use Rattle.plan.specs.declared.Refusal.{Refusal}
 use Rattle.links.specs.declared.Links.{Links}
 use Rattle.events.specs.Fields.{event_minute, event_point, event_set, well_formed}
@@ -49,7 +49,7 @@ pub numbered_formed : (l : Links) (clock done : ℕ) (minutes : List ℕ) (w : W
 unfolding number_by later_by
 numbered_formed l clock done minutes w s k n1 n2 n3 = go (eqb done (below_of l.points)) (stuck_by l done w) (well_formed l.points s) _
   where
-    go : (x y z : Bool) (n : ℕ) → (if x then 21 else if y then 22 else if not z then 23 else n) ≡ k → z ≡ true
+    go : (x y z : Bool) (n : ℕ) → (if x then 21 else (if y then 22 else (if not z then 23 else n))) ≡ k → z ≡ true
     go true y z n e = absurd (n1 (sym e))
     go false true z n e = absurd (n2 (sym e))
     go false false true n e = refl

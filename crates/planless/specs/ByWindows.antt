@@ -1,9 +1,8 @@
 -- What the links l and the windows w say, with the clock, the set `done` of done points and the minute of each: whether a board is
 -- stuck, and the numbers 21 to 30 of an event s with the record beside 28. No reader of the rules needs this page. Assumes
 -- nothing.
-use Rattle.std.specs.Prelude.{Bool, not, List, ℕ, ◌+◌, eqb, ltb, get_or}
+use Rattle.std.specs.Prelude.{Bool, not, List, ℕ, ◌+◌, eqb, ltb, get_or, if◌then◌else◌}
 use Rattle.points.specs.Sets.{members_of, below_of, every}
-use Rattle.plan.specs.Choice.{if◌then◌else◌}
 use Rattle.plan.specs.Limits.{farthest}
 use Rattle.plan.specs.declared.Refusal.{Refusal}
 use Rattle.links.specs.declared.Links.{Links}
@@ -28,8 +27,8 @@ later_by l clock done minutes w s =
 unfoldable pub number_by : Links → ℕ → ℕ → List ℕ → Windows → List ℕ → ℕ
 number_by l clock done minutes w s =
     if eqb done (below_of l.points) then 21
-    else if stuck_by l done w then 22
-    else later_by l clock done minutes w s
+    else (if stuck_by l done w then 22
+    else later_by l clock done minutes w s)
 
 -- the number n of the event s with the record beside it
 abbrev pub with_record : Links → ℕ → Windows → List ℕ → ℕ → Refusal

@@ -7,7 +7,7 @@ use native.Mathlib.Omega.{arith}
 use lib.ListN.{length, take, drop}
 use lib.Seq.{drop-drop}
 use Rattle.plan.specs.Limits.{record_bytes}
-use Rattle.plan.specs.Choice.{if◌then◌else◌}
+use Rattle.std.specs.Prelude.{if◌then◌else◌}
 use Rattle.board.specs.Streams.{events_in}
 use Rattle.stream.specs.Sheets.{is_mark}
 use Rattle.printed.specs.Texts.{until_mark}

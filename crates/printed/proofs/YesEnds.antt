@@ -9,7 +9,7 @@ use lib.Dec.{eqb, ltb}
 use lib.ListN.{length, take, drop}
 use borrow.Author.Tests.{eq-eqb}
 use Rattle.records.proofs.Entries.{all_take, all_drop}
-use Rattle.plan.specs.Choice.{if◌then◌else◌}
+use Rattle.std.specs.Prelude.{if◌then◌else◌}
 use Rattle.records.specs.declared.Record.{Record}
 use Rattle.plan.specs.Limits.{most_records, record_bytes}
 use Rattle.plan.specs.APlan.{plan_of}
@@ -105,8 +105,8 @@ refused_none s e =
     go (eqb (length s) 0) (not (eqb (length s % record_bytes) 0)) (ltb most_records (length s / record_bytes)) (first_bad [] (entries_in (length s / record_bytes) s)) (map (λ (x : Entry). x.what) (entries_in (length s / record_bytes) s)) e
   where
     go : (x y z : Bool) (f : Refusal) (rs : List Record)
-        → eqb (if x then refused (refusal 1 0) else if y then refused (refusal 2 0) else if z then refused (refusal 3 0) else if eqb f.number 0 then taken rs else refused f).number 0 ≡ false
-        → (if x then refused (refusal 1 0) else if y then refused (refusal 2 0) else if z then refused (refusal 3 0) else if eqb f.number 0 then taken rs else refused f).plan ≡ plan_of []
+        → eqb (if x then refused (refusal 1 0) else (if y then refused (refusal 2 0) else (if z then refused (refusal 3 0) else (if eqb f.number 0 then taken rs else refused f)))).number 0 ≡ false
+        → (if x then refused (refusal 1 0) else (if y then refused (refusal 2 0) else (if z then refused (refusal 3 0) else (if eqb f.number 0 then taken rs else refused f)))).plan ≡ plan_of []
     go true y z f rs e = refl
     go false true z f rs e = refl
     go false false true f rs e = refl

@@ -1,9 +1,8 @@
 -- Document 01, "The printing program", whole: `sheet_text`, from all bytes of the input to all bytes of the output; and `offers_text`, the same
 -- for the program that prints every reply. Each line is a definition of `text`; what an event does is `take_of`, what a board is `reply_of`.
 -- Assumes nothing.
-use Rattle.std.specs.Prelude.{Bool, not, List, [], ◌∷◌, ◌++◌, map, ℕ, suc, ◌*◌, ◌/◌, ◌%◌, eqb, ltb, length, take, drop, get_or}
+use Rattle.std.specs.Prelude.{Bool, not, List, [], ◌∷◌, ◌++◌, map, ℕ, suc, ◌*◌, ◌/◌, ◌%◌, eqb, ltb, length, take, drop, get_or, if◌then◌else◌}
 use Rattle.points.specs.Sets.{from}
-use Rattle.plan.specs.Choice.{if◌then◌else◌}
 use Rattle.plan.specs.Limits.{record_bytes}
 use Rattle.plan.specs.APlan.{points, blank, records_of}
 use Rattle.plan.specs.ReplyNumbers.{read_of}

@@ -1,8 +1,7 @@
 -- Document 02, §13, "Worst finishing minute": the run of a projection, from the fresh board. p is the plan, rs its records, w
 -- the projection's durations, b the board. Assumes nothing.
-use Rattle.std.specs.Prelude.{Bool, true, false, ◌&&◌, List, [], ◌∷◌, ◌++◌, ℕ, zero, suc, ◌+◌, eqb}
+use Rattle.std.specs.Prelude.{Bool, true, false, ◌&&◌, List, [], ◌∷◌, ◌++◌, ℕ, zero, suc, ◌+◌, eqb, if◌then◌else◌}
 use Rattle.points.specs.Sets.{from, passing, first_or}
-use Rattle.plan.specs.Choice.{if◌then◌else◌}
 use Rattle.plan.specs.Limits.{most_points}
 use Rattle.plan.specs.APlan.{points, link_to, records_of}
 use Rattle.records.specs.declared.Record.{Record}

@@ -6,7 +6,7 @@ use Prim.Native.Nat.{ℕ, ◌+◌, ◌<◌}
 use native.Mathlib.Omega.{arith}
 use lib.Dec.{eqb}
 use lib.ListN.{get_or}
-use Rattle.plan.specs.Choice.{if◌then◌else◌}
+use Rattle.std.specs.Prelude.{if◌then◌else◌}
 use Rattle.plan.specs.Limits.{most_points}
 use Rattle.plan.specs.APlan.{records_of}
 use Rattle.plan.specs.ReplyNumbers.{check_of}
@@ -46,8 +46,8 @@ unfolding reply_of
 whole p b e = go (eqb (check_of p).number 0) (sound (records_of p) b) (outcome_of (records_of p) b) e
   where
     go : (x y : Bool) (o : Outcome)
-        → (if not x then bare (Refused (check_of p).number (check_of p).place) else if not y then bare (Refused 20 0) else reply_for o (records_of p) b).outcome ≡ Offers
-        → (if not x then bare (Refused (check_of p).number (check_of p).place) else if not y then bare (Refused 20 0) else reply_for o (records_of p) b) ≡ offer (records_of p) b
+        → (if not x then bare (Refused (check_of p).number (check_of p).place) else (if not y then bare (Refused 20 0) else reply_for o (records_of p) b)).outcome ≡ Offers
+        → (if not x then bare (Refused (check_of p).number (check_of p).place) else (if not y then bare (Refused 20 0) else reply_for o (records_of p) b)) ≡ offer (records_of p) b
     go false y o e = no_offer _ refl e
     go true false o e = no_offer _ refl e
     go true true (Refused n i) e = no_offer _ refl e
@@ -75,7 +75,7 @@ no_values : (rs : List Record) (b : Board) → outcome_values (outcome_of rs b) 
 unfolding outcome_of
 no_values rs b = go (finished rs b) (stuck rs b) (some_open rs b)
   where
-    go : (f s o : Bool) → outcome_values (if f then Finished else if s then Stuck else if not o then Waiting else Offers) ≡ []
+    go : (f s o : Bool) → outcome_values (if f then Finished else (if s then Stuck else (if not o then Waiting else Offers))) ≡ []
     go true s o = refl
     go false true o = refl
     go false false false = refl

@@ -12,7 +12,7 @@ use lib.ListN.{length, get_or}
 use borrow.Author.Tests.{lt-ltb, eqb-true, eq-eqb, not-true}
 use Rattle.points.specs.Sets.{from}
 use Rattle.points.proofs.Laws.{member_past}
-use Rattle.plan.specs.Choice.{if◌then◌else◌}
+use Rattle.std.specs.Prelude.{if◌then◌else◌}
 use Rattle.plan.specs.Limits.{most_points, farthest}
 use Rattle.plan.specs.APlan.{Kind, link, ordinary, wait, is, some, points, watched, link_to, blank, gap_of}
 use Rattle.records.specs.declared.Record.{Record}
@@ -184,7 +184,7 @@ module _ (rs : List Record) (ok : Accepted rs) (b : Board) where
             l = link_to rs r.b
 
             go : (x y : Bool) → (eqb r.a q && (is ordinary r && is_done b r.b)) ≡ x → (eqb r.a q && (is wait r && running b l)) ≡ y
-                → (if x then minute b r.b + (gap_of r.first).down - (gap_of r.first).up else if y then minute b l.a + (gap_of r.first).up else 0) ≤ t
+                → (if x then minute b r.b + (gap_of r.first).down - (gap_of r.first).up else (if y then minute b l.a + (gap_of r.first).up else 0)) ≤ t
             go true y e g =
                 let e1 = both (eqb r.a q) _ e in
                 let e2 = both (is ordinary r) _ e1.1 in

@@ -9,7 +9,7 @@ use native.Mathlib.Omega.{arith}
 use lib.Dec.{eqb}
 use borrow.Author.Tests.{eqb-true, eq-eqb, ne_eqb}
 use Rattle.points.specs.Sets.{member}
-use Rattle.plan.specs.Choice.{if◌then◌else◌}
+use Rattle.std.specs.Prelude.{if◌then◌else◌}
 use Rattle.plan.specs.Limits.{most_points}
 use Rattle.plan.specs.APlan.{watched, records_of}
 use Rattle.plan.specs.Held.{All, IsByte}
@@ -39,9 +39,9 @@ taken_by_lem p b s e = go (eqb (check_of p).number 0) (sound (records_of p) b) r
   where
     go : (x y : Bool) → eqb (check_of p).number 0 ≡ x → sound (records_of p) b ≡ y
         → (if not x then taken (check_of p).number (check_of p).place b
-        else if not y then taken 20 0 b
-        else if not (eqb (event_number (records_of p) b s) 0) then taken (event_number (records_of p) b s) (event_record (records_of p) b s) b
-        else taken 0 0 (board_after b s)).number ≡ 0
+        else (if not y then taken 20 0 b
+        else (if not (eqb (event_number (records_of p) b s) 0) then taken (event_number (records_of p) b s) (event_record (records_of p) b s) b
+        else taken 0 0 (board_after b s)))).number ≡ 0
         → ((check_of p).number ≡ 0) × (y ≡ true)
     go false y f g e = clash (sym (eq-eqb _ _ e) ∙ f)
     go true false f g e = absurd (omega arith)

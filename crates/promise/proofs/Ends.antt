@@ -7,7 +7,7 @@ use mathlib.Core.List.{List}
 use Prim.Native.Nat.{ℕ, suc}
 use lib.Dec.{eqb}
 use borrow.Author.Tests.{eqb-true}
-use Rattle.plan.specs.Choice.{if◌then◌else◌}
+use Rattle.std.specs.Prelude.{if◌then◌else◌}
 use Rattle.plan.specs.APlan.{records_of}
 use Rattle.plan.specs.Held.{All, IsByte}
 use Rattle.plan.specs.ReplyNumbers.{check_of}
@@ -38,8 +38,8 @@ stays p b s e =
     go (eqb (check_of p).number 0) (sound (records_of p) b) (eqb (event_number (records_of p) b s) 0) e
   where
     go : (x y z : Bool)
-        → eqb (if not x then taken (check_of p).number (check_of p).place b else if not y then taken 20 0 b else if not z then taken (event_number (records_of p) b s) (event_record (records_of p) b s) b else taken 0 0 (board_after b s)).number 0 ≡ false
-        → (if not x then taken (check_of p).number (check_of p).place b else if not y then taken 20 0 b else if not z then taken (event_number (records_of p) b s) (event_record (records_of p) b s) b else taken 0 0 (board_after b s)).board ≡ b
+        → eqb (if not x then taken (check_of p).number (check_of p).place b else (if not y then taken 20 0 b else (if not z then taken (event_number (records_of p) b s) (event_record (records_of p) b s) b else taken 0 0 (board_after b s)))).number 0 ≡ false
+        → (if not x then taken (check_of p).number (check_of p).place b else (if not y then taken 20 0 b else (if not z then taken (event_number (records_of p) b s) (event_record (records_of p) b s) b else taken 0 0 (board_after b s)))).board ≡ b
     go false y z e = refl
     go true false z e = refl
     go true true false e = refl
@@ -58,7 +58,7 @@ all_done : (rs : List Record) (b : Board) → outcome_of rs b ≡ Finished → f
 unfolding outcome_of
 all_done rs b e = go (finished rs b) (stuck rs b) (some_open rs b) e
   where
-    go : (f s o : Bool) → (if f then Finished else if s then Stuck else if not o then Waiting else Offers) ≡ Finished → f ≡ true
+    go : (f s o : Bool) → (if f then Finished else (if s then Stuck else (if not o then Waiting else Offers))) ≡ Finished → f ≡ true
     go true s o e = refl
     go false true o e = differ cc
     go false false true e = differ cc

@@ -10,7 +10,7 @@ use lib.ListN.{get_or}
 use borrow.Author.Tests.{eqb-true}
 use Rattle.points.specs.Sets.{count_of}
 use Rattle.points.proofs.Laws.{member_empty}
-use Rattle.plan.specs.Choice.{if◌then◌else◌}
+use Rattle.std.specs.Prelude.{if◌then◌else◌}
 use Rattle.plan.specs.APlan.{records_of}
 use Rattle.plan.specs.Held.{All, IsByte}
 use Rattle.plan.specs.ReplyNumbers.{check_of}
@@ -65,7 +65,7 @@ module _ (rs : List Record) (b : Board) where
   unfolding outcome_of
   no_stuck h e = go (finished rs b) (stuck rs b) (some_open rs b) h e
     where
-      go : (f s o : Bool) → (f ≡ false → s ≡ false) → (if f then Finished else if s then Stuck else if not o then Waiting else Offers) ≡ Stuck → ⊥
+      go : (f s o : Bool) → (f ≡ false → s ≡ false) → (if f then Finished else (if s then Stuck else (if not o then Waiting else Offers))) ≡ Stuck → ⊥
       go true s o h e = differ cc
       go false true o h e = clash (h refl)
       go false false true h e = differ cc
@@ -87,8 +87,8 @@ module _ (p : Plan) (ok : (check_of p).number ≡ 0) where
   -- What taking an event answers, for a plan that is accepted.
   pub take_is : (b : Board) (s : List ℕ) → take_of p b s
       ≡ (if not (sound (records_of p) b) then taken 20 0 b
-      else if not (eqb (event_number (records_of p) b s) 0) then taken (event_number (records_of p) b s) (event_record (records_of p) b s) b
-      else taken 0 0 (board_after b s))
+      else (if not (eqb (event_number (records_of p) b s) 0) then taken (event_number (records_of p) b s) (event_record (records_of p) b s) b
+      else taken 0 0 (board_after b s)))
   unfolding take_of
   take_is b s = rw ok
 

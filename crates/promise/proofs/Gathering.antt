@@ -11,7 +11,7 @@ use lib.Dec.{eqb}
 use borrow.Author.Tests.{eqb-true, eq-eqb}
 use Rattle.points.specs.Sets.{member, with_of, from}
 use Rattle.points.proofs.Laws.{member_empty, member_with, with_fits}
-use Rattle.plan.specs.Choice.{if◌then◌else◌}
+use Rattle.std.specs.Prelude.{if◌then◌else◌}
 use Rattle.plan.specs.Limits.{most_points}
 use Rattle.board.specs.Windows.{never}
 use Rattle.board.proofs.Theorems.Each.{clash, either}

@@ -11,7 +11,7 @@ use lib.Dec.{eqb}
 use borrow.Author.Tests.{eqb-true, eqb-false, eq-eqb, ne_eqb, not-true}
 use Rattle.points.specs.Sets.{member, from, passing}
 use Rattle.points.proofs.Laws.{member_empty, member_small, first_member}
-use Rattle.plan.specs.Choice.{if◌then◌else◌}
+use Rattle.std.specs.Prelude.{if◌then◌else◌}
 use Rattle.plan.specs.Limits.{most_points}
 use Rattle.plan.specs.APlan.{points, watched, records_of}
 use Rattle.plan.specs.Held.{All, IsByte}

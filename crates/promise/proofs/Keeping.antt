@@ -7,7 +7,7 @@ use native.Mathlib.Omega.{arith}
 use lib.Dec.{eqb, leb}
 use borrow.Author.Tests.{leb-true, eqb-true}
 use Rattle.points.specs.Sets.{first_or}
-use Rattle.plan.specs.Choice.{if◌then◌else◌}
+use Rattle.std.specs.Prelude.{if◌then◌else◌}
 use Rattle.plan.specs.Limits.{farthest}
 use Rattle.plan.specs.APlan.{Kind, link, ordinary, wait, is, link_to, gap_of, records_of}
 use Rattle.plan.specs.ReplyNumbers.{check_of}
@@ -24,9 +24,9 @@ use Rattle.promise.proofs.Nets.{joins}
 abbrev pub keeps_it : List Record → (ℕ → ℕ) → (ℕ → ℕ) → Record → Bool
 keeps_it rs ω g r =
     if is ordinary r then leb (g r.b + (gap_of r.first).down) (g r.a + (gap_of r.first).up)
-    else if is link r then eqb (g r.b) (g r.a + ω r.b) && (leb (shortest r) (ω r.b) && leb (ω r.b) (longest r))
-    else if is wait r then leb (g (link_to rs r.b).a + min (gap_of r.first).up (ω r.b)) (g r.a)
-    else true
+    else (if is link r then eqb (g r.b) (g r.a + ω r.b) && (leb (shortest r) (ω r.b) && leb (ω r.b) (longest r))
+    else (if is wait r then leb (g (link_to rs r.b).a + min (gap_of r.first).up (ω r.b)) (g r.a)
+    else true))
 
 module _ (p : Plan) (ok : (check_of p).number ≡ 0) (ω g : ℕ → ℕ) (all : each (keeps_it (records_of p) ω g) (records_of p) ≡ true) where
   abbrev rs : List Record

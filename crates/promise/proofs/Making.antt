@@ -12,7 +12,7 @@ use lib.Pow.{pow_pos}
 use borrow.Author.Tests.{leb-true, leb-false, eqb-true, eq-eqb, not-false}
 use Rattle.points.specs.Sets.{member, from}
 use Rattle.points.proofs.Laws.{member_le, count_le}
-use Rattle.plan.specs.Choice.{if◌then◌else◌}
+use Rattle.std.specs.Prelude.{if◌then◌else◌}
 use Rattle.plan.specs.Limits.{most_points, farthest}
 use Rattle.plan.specs.APlan.{link, is, some, watched, blank, records_of}
 use Rattle.plan.specs.ReplyNumbers.{check_of}

@@ -9,7 +9,7 @@ use native.Mathlib.Omega.{arith}
 use lib.Dec.{eqb, ltb}
 use borrow.Author.Tests.{ltb-true, ltb-false, eqb-true, eqb-false, eq-eqb}
 use Rattle.points.specs.Sets.{from, passing, first_or}
-use Rattle.plan.specs.Choice.{if◌then◌else◌}
+use Rattle.std.specs.Prelude.{if◌then◌else◌}
 use Rattle.plan.specs.Limits.{farthest}
 use Rattle.board.proofs.Theorems.Each.{clash, either, has}
 use Rattle.promise.specs.GoodSheets.{in_place, in_order, Near}
@@ -99,7 +99,7 @@ place_has k t (m ∷ ms) = go (ltb t m) (eqb t m) refl (place_has k t ms)
     twice false b = refl
 
     go : (c d : Bool) → eqb t m ≡ d → has k (in_place t ms) ≡ (eqb k t || has k ms)
-        → has k (if c then t ∷ m ∷ ms else if d then m ∷ ms else m ∷ in_place t ms) ≡ (eqb k t || (eqb k m || has k ms))
+        → has k (if c then t ∷ m ∷ ms else (if d then m ∷ ms else m ∷ in_place t ms)) ≡ (eqb k t || (eqb k m || has k ms))
     go true d e r = refl
     go false true e r = rw (eqb-true t m e) (twice (eqb k m) (has k ms))
     go false false e r = rw r (turn (eqb k m) (eqb k t) (has k ms))
@@ -109,7 +109,7 @@ unfolding in_place Rising
 place_rising t [] r = (λ k h. clash (sym h), tt)
 place_rising t (m ∷ ms) r = go (ltb t m) (eqb t m) refl refl (place_rising t ms r.1)
   where
-    go : (c d : Bool) → ltb t m ≡ c → eqb t m ≡ d → Rising (in_place t ms) → Rising (if c then t ∷ m ∷ ms else if d then m ∷ ms else m ∷ in_place t ms)
+    go : (c d : Bool) → ltb t m ≡ c → eqb t m ≡ d → Rising (in_place t ms) → Rising (if c then t ∷ m ∷ ms else (if d then m ∷ ms else m ∷ in_place t ms))
     go true d e f s =
         let l = ltb-true t m e in
         ((λ k h. elim (split k m ms h) [ inl z ↦ omega arith | inr z ↦ omega (arith, r.0 k z) ]), r)

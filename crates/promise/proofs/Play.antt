@@ -6,7 +6,7 @@ use mathlib.Core.Bool.{Bool, true, false, not}
 use mathlib.Core.List.{List}
 use Prim.Native.Nat.{ℕ, zero, suc, ◌+◌, ◌<◌}
 use native.Mathlib.Omega.{arith}
-use Rattle.plan.specs.Choice.{if◌then◌else◌}
+use Rattle.std.specs.Prelude.{if◌then◌else◌}
 use Rattle.plan.specs.APlan.{points, records_of}
 use Rattle.plan.specs.ReplyNumbers.{check_of}
 use Rattle.records.specs.declared.Record.{Record}
@@ -37,7 +37,7 @@ pub waiting : (rs : List Record) (b : Board) → outcome_of rs b ≡ Waiting →
 unfolding outcome_of
 waiting rs b e = go (finished rs b) (stuck rs b) (some_open rs b) e
   where
-    go : (f s o : Bool) → (if f then Finished else if s then Stuck else if not o then Waiting else Offers) ≡ Waiting
+    go : (f s o : Bool) → (if f then Finished else (if s then Stuck else (if not o then Waiting else Offers))) ≡ Waiting
         → (f ≡ false) × (s ≡ false) × (o ≡ false)
     go true s o e = differ cc
     go false true o e = differ cc

@@ -8,7 +8,7 @@ use Prim.Native.Nat.{ℕ, ◌+◌, ◌-◌, ◌≤◌, max}
 use native.Mathlib.Omega.{arith}
 use lib.Dec.{ltb}
 use borrow.Author.Tests.{ltb-false, le-ltb}
-use Rattle.plan.specs.Choice.{if◌then◌else◌}
+use Rattle.std.specs.Prelude.{if◌then◌else◌}
 use Rattle.plan.specs.Limits.{most_points, farthest}
 use Rattle.plan.specs.APlan.{watched, link_to, records_of}
 use Rattle.plan.specs.ReplyNumbers.{check_of}
@@ -87,7 +87,7 @@ module _ (p : Plan) (ok : (check_of p).number ≡ 0) where
       go (is_done b q) (watched rs q) (is_open rs b q) (ltb (latest rs b) (low rs b q)) c.2 c.1 can (le-ltb (latest rs b) (low rs b q) l)
     where
       go : (d w o h : Bool) → d ≡ false → w ≡ false → o ≡ true → h ≡ false
-          → (if d then Done (minute b q) else if w then Watched else if not o then Shut (holder rs b q) else if h then Held else Offered (low rs b q)) ≡ Offered (low rs b q)
+          → (if d then Done (minute b q) else (if w then Watched else (if not o then Shut (holder rs b q) else (if h then Held else Offered (low rs b q))))) ≡ Offered (low rs b q)
       go d w o h e f g i = rw (e, f, g, i)
 
   -- An offer offers something.

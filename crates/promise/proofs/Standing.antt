@@ -11,7 +11,7 @@ use lib.ListN.{length, get_or}
 use borrow.Author.Tests.{ltb-true, lt-ltb, le-leb, eqb-true, eq-eqb, not-true}
 use Rattle.points.specs.Sets.{member, members_of, count_of, below_of, passing, from}
 use Rattle.points.proofs.Laws.{member_small, member_below, same_members, below_fits, count_le, count_members}
-use Rattle.plan.specs.Choice.{if◌then◌else◌}
+use Rattle.std.specs.Prelude.{if◌then◌else◌}
 use Rattle.plan.specs.Limits.{most_points, farthest}
 use Rattle.plan.specs.APlan.{ordinary, wait, is, some, points, link_to, blank, gap_of}
 use Rattle.records.specs.declared.Record.{Record}
@@ -161,7 +161,7 @@ module _ (rs : List Record) (ok : Accepted rs) (passes : Passes (net_of rs)) (b 
       r : Record
       r = get_or rs i blank
 
-      go : (o v : Bool) → is ordinary r ≡ o → is wait r ≡ v → (if o then ordinary_kept b r else if v then wait_kept b (link_to rs r.b) r else true) ≡ true
+      go : (o v : Bool) → is ordinary r ≡ o → is wait r ≡ v → (if o then ordinary_kept b r else (if v then wait_kept b (link_to rs r.b) r else true)) ≡ true
       go true v f g =
           le-leb _ _ ((all_kept (rules_of rs ok) passes time safe (all_done rs b ok.few e)).records (ordinary_in rs ok (record { place = i; listed = h; here = refl; kind = f })))
       go false true f g =

@@ -1,9 +1,8 @@
 -- Document 02, §9, "No good sheet is forbidden": what a good sheet is, the events that give its minutes, and what is promised
 -- of them. A sheet is a minute g q for each point q of the plan, given all at once; ω has a duration for each link, by its
 -- C. Assumes nothing.
-use Rattle.std.specs.Prelude.{◌≡◌, Bool, true, not, ◌&&◌, List, [], ◌∷◌, ◌++◌, map, ℕ, ◌+◌, ◌-◌, ◌≤◌, ◌<◌, min, eqb, ltb}
+use Rattle.std.specs.Prelude.{◌≡◌, Bool, true, not, ◌&&◌, List, [], ◌∷◌, ◌++◌, map, ℕ, ◌+◌, ◌-◌, ◌≤◌, ◌<◌, min, eqb, ltb, if◌then◌else◌}
 use Rattle.points.specs.Sets.{from, passing, first_or}
-use Rattle.plan.specs.Choice.{if◌then◌else◌}
 use Rattle.plan.specs.Limits.{most_points, farthest}
 use Rattle.plan.specs.APlan.{points, watched, link_to, records_of}
 use Rattle.plan.specs.ReplyNumbers.{check_of}
@@ -26,8 +25,8 @@ unfoldable pub in_place : ℕ → List ℕ → List ℕ
 in_place t [] = t ∷ []
 in_place t (m ∷ ms) =
     if ltb t m then t ∷ m ∷ ms
-    else if eqb t m then m ∷ ms
-    else m ∷ in_place t ms
+    else (if eqb t m then m ∷ ms
+    else m ∷ in_place t ms)
 
 -- some minutes in order, each once
 unfoldable pub in_order : List ℕ → List ℕ

@@ -1,8 +1,7 @@
 -- Plays: what haulage and the foreman can do at a board, the event that the two make, and what becomes of the fresh board
 -- when they go on so. rs are the plan's records, b the board. Assumes nothing.
-use Rattle.std.specs.Prelude.{◌≡◌, ◌⊎◌, Bool, true, false, ◌&&◌, List, [], ◌∷◌, ◌++◌, ℕ, suc, ◌+◌, ◌^◌, ◌≤◌, ◌<◌, min, eqb, leb}
+use Rattle.std.specs.Prelude.{◌≡◌, ◌⊎◌, Bool, true, false, ◌&&◌, List, [], ◌∷◌, ◌++◌, ℕ, suc, ◌+◌, ◌^◌, ◌≤◌, ◌<◌, min, eqb, leb, if◌then◌else◌}
 use Rattle.points.specs.Sets.{member, with_of, from}
-use Rattle.plan.specs.Choice.{if◌then◌else◌}
 use Rattle.plan.specs.Limits.{most_points}
 use Rattle.plan.specs.APlan.{points, watched, link_to, records_of}
 use Rattle.plan.specs.PlanFile.{word_bytes}

@@ -1,8 +1,7 @@
 -- The lines of `desk explain` behind that of the test: `drive A C MINUTES` for each link, for a pair `shortest LENGTH` and `allowed LENGTH` or
 -- `allowed none`, `step RECORD FROM TO LENGTH` for each step, and `sum LENGTH`. A word is the codes of its letters to the base 256, the
 -- first letter lowest. Assumes nothing.
-use Rattle.std.specs.Prelude.{not, [], ◌∷◌, ℕ, ltb}
-use Rattle.numbers.specs.Choice.{if◌then◌else◌}
+use Rattle.std.specs.Prelude.{not, [], ◌∷◌, ℕ, ltb, if◌then◌else◌}
 use Rattle.lines.specs.Text.{said}
 use Rattle.lines.specs.declared.Line.{Line}
 use Rattle.lines.specs.declared.Piece.{Piece}
@@ -34,8 +33,8 @@ sum_word = 0x6d7573
 abbrev pub length_piece : Length → Piece
 length_piece l =
     if not l.there then Name none_word
-    else if ltb 0 l.down then Below l.down
-    else Number l.up
+    else (if ltb 0 l.down then Below l.down
+    else Number l.up)
 
 -- drive A C MINUTES
 abbrev pub drive_line : Drive → Line

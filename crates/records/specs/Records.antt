@@ -1,6 +1,5 @@
 -- Document 01, "A plan": the four kinds of record, and what some records say of the points. Assumes nothing.
-use Rattle.std.specs.Prelude.{Bool, true, false, ◌&&◌, ◌||◌, List, [], ◌∷◌, ℕ, ◌+◌, eqb, pos}
-use Rattle.numbers.specs.Choice.{if◌then◌else◌}
+use Rattle.std.specs.Prelude.{Bool, true, false, ◌&&◌, ◌||◌, List, [], ◌∷◌, ℕ, ◌+◌, eqb, pos, if◌then◌else◌}
 use Rattle.records.specs.Limits.{most_points, most_links, most_waits}
 use Rattle.records.specs.declared.Record.{Record}
 
@@ -15,10 +14,10 @@ pub data Kind : Type 0 where
 abbrev pub kind_of : ℕ → Kind
 kind_of k =
     if eqb k 1 then point
-    else if eqb k 2 then link
-    else if eqb k 3 then ordinary
-    else if eqb k 4 then wait
-    else unknown
+    else (if eqb k 2 then link
+    else (if eqb k 3 then ordinary
+    else (if eqb k 4 then wait
+    else unknown)))
 
 -- how many records of a kind a plan may have, where m is the limit of ordinary ones
 abbrev pub most_with : ℕ → Kind → ℕ

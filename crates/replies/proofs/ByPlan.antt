@@ -7,7 +7,7 @@ use Prim.Native.Nat.{ℕ}
 use lib.Dec.{eqb}
 use borrow.Author.Tests.{eq-eqb, ne_eqb, eqb-true, eqb-false}
 use Rattle.points.specs.Sets.{below_of}
-use Rattle.plan.specs.Choice.{if◌then◌else◌}
+use Rattle.std.specs.Prelude.{if◌then◌else◌}
 use Rattle.plan.proofs.Accepted.{Accepted}
 use Rattle.records.specs.declared.Record.{Record}
 use Rattle.links.specs.Inside.{LinksOf}
@@ -62,9 +62,9 @@ module _ (rs : List Record) (ok : Accepted rs) (l : Links) (has : LinksOf rs l) 
   -- the first outcome that fits
   outcome : (f s o : Bool) → finished rs b ≡ f → stuck rs b ≡ s → eqb w.opens 0 ≡ o
       → (if f then bare Finished
-      else if s then list_from Stuck b l.watched w false 0
-      else if o then list_from Waiting b l.watched w false 0
-      else list_from Offers b l.watched w true (latest_from b.clock w.high))
+      else (if s then list_from Stuck b l.watched w false 0
+      else (if o then list_from Waiting b l.watched w false 0
+      else list_from Offers b l.watched w true (latest_from b.clock w.high))))
       ≡ sound_reply rs b
   outcome true s o e g h = reply_finished rs b e
   outcome false true o e g h = standing_here rs b l has w here Stuck ∙ reply_stuck rs b e g

@@ -3,7 +3,7 @@ use mathlib.Core.Path.{◌≡◌, refl, ap, ◌∙◌}
 use mathlib.Core.Bool.{Bool, true, false, not}
 use mathlib.Core.List.{List}
 use lib.Dec.{eqb}
-use Rattle.plan.specs.Choice.{if◌then◌else◌}
+use Rattle.std.specs.Prelude.{if◌then◌else◌}
 use Rattle.plan.specs.APlan.{records_of}
 use Rattle.plan.specs.ReplyNumbers.{check_of}
 use Rattle.records.specs.declared.Record.{Record}
@@ -23,7 +23,7 @@ module _ (rs : List Record) (b : Board) where
   unfolding outcome_of
   sound_number = go (finished rs b) (stuck rs b) (some_open rs b)
     where
-      go : (f s o : Bool) → outcome_number (reply_for (if f then outcome.Finished else if s then outcome.Stuck else if not o then outcome.Waiting else outcome.Offers) rs b).outcome ≡ 0
+      go : (f s o : Bool) → outcome_number (reply_for (if f then outcome.Finished else (if s then outcome.Stuck else (if not o then outcome.Waiting else outcome.Offers))) rs b).outcome ≡ 0
       go true s o = refl
       go false true o = refl
       go false false true = refl
@@ -36,8 +36,8 @@ module _ (p : Plan) (b : Board) where
   reply_number = go (eqb (check_of p).number 0) (sound (records_of p) b)
     where
       go : (k s : Bool)
-          → outcome_number (if not k then bare (outcome.Refused (check_of p).number (check_of p).place) else if not s then bare (outcome.Refused 20 0) else sound_reply (records_of p) b).outcome
-          ≡ (if not k then (check_of p).number else if not s then 20 else 0)
+          → outcome_number (if not k then bare (outcome.Refused (check_of p).number (check_of p).place) else (if not s then bare (outcome.Refused 20 0) else sound_reply (records_of p) b)).outcome
+          ≡ (if not k then (check_of p).number else (if not s then 20 else 0))
       go true true = sound_number (records_of p) b
       go true false = refl
       go false s = refl

@@ -11,7 +11,7 @@ use lib.Dec.{eqb, ltb}
 use borrow.Author.Tests.{ltb-false, lt-ltb, le-ltb, le-leb, ne_eqb}
 use Rattle.points.specs.Sets.{members_of, below_of, every}
 use Rattle.points.proofs.Laws.{count_le, members_empty, subset_empty}
-use Rattle.plan.specs.Choice.{if◌then◌else◌}
+use Rattle.std.specs.Prelude.{if◌then◌else◌}
 use Rattle.plan.specs.APlan.{points, watched, records_of}
 use Rattle.plan.specs.PlanFile.{word_bytes}
 use Rattle.plan.specs.ReplyNumbers.{check_of}
@@ -44,7 +44,7 @@ module _ (rs : List Record) (b : Board) where
   unfolding outcome_of
   offers e = go (finished rs b) (stuck rs b) (some_open rs b) e
     where
-      go : (f s o : Bool) → (if f then Finished else if s then Stuck else if not o then Waiting else Offers) ≡ Offers → (f ≡ false) × (s ≡ false) × (o ≡ true)
+      go : (f s o : Bool) → (if f then Finished else (if s then Stuck else (if not o then Waiting else Offers))) ≡ Offers → (f ≡ false) × (s ≡ false) × (o ≡ true)
       go true s o e = differ cc
       go false true o e = differ cc
       go false false false e = differ cc
@@ -56,7 +56,7 @@ module _ (rs : List Record) (b : Board) where
   offered q t e = go (is_done b q) (watched rs q) (is_open rs b q) (ltb (latest rs b) (low rs b q)) refl e
     where
       go : (d w o h : Bool) → ltb (latest rs b) (low rs b q) ≡ h
-          → (if d then Done (minute b q) else if w then Watched else if not o then Shut (holder rs b q) else if h then Held else Offered (low rs b q)) ≡ Offered t
+          → (if d then Done (minute b q) else (if w then Watched else (if not o then Shut (holder rs b q) else (if h then Held else Offered (low rs b q))))) ≡ Offered t
           → (o ≡ true) × (low rs b q ≤ latest rs b) × (low rs b q ≡ t)
       go true w o h f e = differ cc
       go false true o h f e = differ cc

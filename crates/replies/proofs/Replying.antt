@@ -10,7 +10,7 @@ use lib.Dec.{ltb}
 use lib.ListN.{length, get_or, set, replicate, length-set, length-map, length-replicate}
 use lib.Seq.{get_or-set_same, get_or-set_other, ext_get_or}
 use Rattle.points.specs.Sets.{from}
-use Rattle.plan.specs.Choice.{if◌then◌else◌}
+use Rattle.std.specs.Prelude.{if◌then◌else◌}
 use Rattle.plan.specs.Limits.{most_points, farthest}
 use Rattle.plan.specs.APlan.{watched, records_of}
 use Rattle.plan.specs.ReplyNumbers.{check_of}
@@ -92,8 +92,8 @@ module _ (rs : List Record) (b : Board) where
     standing_here o = rw (map_same (place_from b l.watched w false 0) (λ (q : ℕ). record { state = withheld (state_of rs b q) }) most_points 0 place)
       where
         read : (d c o late : Bool) (m i low : ℕ)
-            → (if d then Done m else if c then Watched else if not o then Shut i else Held)
-            ≡ withheld (if d then Done m else if c then Watched else if not o then Shut i else if late then Held else Offered low)
+            → (if d then Done m else (if c then Watched else (if not o then Shut i else Held)))
+            ≡ withheld (if d then Done m else (if c then Watched else (if not o then Shut i else (if late then Held else Offered low))))
         read true c o late m i low = refl
         read false true o late m i low = refl
         read false false false late m i low = refl

@@ -1,8 +1,7 @@
 -- What the functions behind the reply compute. A reader of the rules can leave this page out: the open functions' contracts do
 -- not cite it. Assumes nothing.
-use Rattle.std.specs.Prelude.{Bool, not, ◌||◌, map, ℕ, ltb, get_or}
+use Rattle.std.specs.Prelude.{Bool, not, ◌||◌, map, ℕ, ltb, get_or, if◌then◌else◌}
 use Rattle.points.specs.Sets.{member, from}
-use Rattle.plan.specs.Choice.{if◌then◌else◌}
 use Rattle.plan.specs.Limits.{most_points}
 use Rattle.board.specs.declared.Board.{Board}
 use Rattle.windows.specs.declared.Windows.{Windows}
@@ -16,10 +15,10 @@ use Rattle.replies.specs.declared.Reply.{Reply}
 unfoldable pub state_from : Bool → ℕ → Bool → Bool → ℕ → Bool → ℕ → ℕ → State
 state_from done minute watches opens holder offers latest low =
     if done then Done minute
-    else if watches then Watched
-    else if not opens then Shut holder
-    else if not offers || ltb latest low then Held
-    else Offered low
+    else (if watches then Watched
+    else (if not opens then Shut holder
+    else (if not offers || ltb latest low then Held
+    else Offered low)))
 
 -- a point's place
 abbrev pub place_from : Board → ℕ → Windows → Bool → ℕ → ℕ → Place

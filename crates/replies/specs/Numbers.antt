@@ -1,7 +1,6 @@
 -- For each answer that is an enum: document 01's reply number, 0 where nothing is refused, and the values that each of its
 -- cases carries. Assumes nothing.
-use Rattle.std.specs.Prelude.{not, List, [], ◌∷◌, ℕ, eqb}
-use Rattle.plan.specs.Choice.{if◌then◌else◌}
+use Rattle.std.specs.Prelude.{not, List, [], ◌∷◌, ℕ, eqb, if◌then◌else◌}
 use Rattle.plan.specs.APlan.{records_of}
 use Rattle.plan.specs.ReplyNumbers.{check_of}
 use Rattle.plan.specs.declared.Plan.{Plan}
@@ -39,5 +38,5 @@ state_values (Offered low) = low ∷ []
 abbrev pub call_number : Plan → Board → ℕ
 call_number p b =
     if not (eqb (check_of p).number 0) then (check_of p).number
-    else if not (sound (records_of p) b) then 20
-    else 0
+    else (if not (sound (records_of p) b) then 20
+    else 0)

@@ -1,9 +1,8 @@
 -- Document 01, "Board, windows, replies", the reply: the first outcome that fits, for an offer the latest, and a list of the
 -- points. By document 02, §6, the list is there also when waiting or stuck, and names for each shut point the first record in
 -- file order that keeps it shut. Assumes nothing.
-use Rattle.std.specs.Prelude.{Bool, not, List, map, ℕ, eqb, ltb, replicate}
+use Rattle.std.specs.Prelude.{Bool, not, List, map, ℕ, eqb, ltb, replicate, if◌then◌else◌}
 use Rattle.points.specs.Sets.{from}
-use Rattle.plan.specs.Choice.{if◌then◌else◌}
 use Rattle.plan.specs.Limits.{most_points}
 use Rattle.plan.specs.APlan.{watched, records_of}
 use Rattle.plan.specs.ReplyNumbers.{check_of}
@@ -24,18 +23,18 @@ use Rattle.replies.specs.declared.Reply.{Reply}
 unfoldable pub outcome_of : List Record → Board → Outcome
 outcome_of rs b =
     if finished rs b then Finished
-    else if stuck rs b then Stuck
-    else if not (some_open rs b) then Waiting
-    else Offers
+    else (if stuck rs b then Stuck
+    else (if not (some_open rs b) then Waiting
+    else Offers))
 
 -- one point in the list of an offer: a shut one with its record, which room past the plan's last point has not
 unfoldable pub state_of : List Record → Board → ℕ → State
 state_of rs b q =
     if is_done b q then Done (minute b q)
-    else if watched rs q then Watched
-    else if not (is_open rs b q) then Shut (holder rs b q)
-    else if ltb (latest rs b) (low rs b q) then Held
-    else Offered (low rs b q)
+    else (if watched rs q then Watched
+    else (if not (is_open rs b q) then Shut (holder rs b q)
+    else (if ltb (latest rs b) (low rs b q) then Held
+    else Offered (low rs b q))))
 
 abbrev pub shut : Place
 shut = record { state = Shut 0 }
@@ -78,5 +77,5 @@ sound_reply rs b = reply_for (outcome_of rs b) rs b
 unfoldable pub reply_of : Plan → Board → Reply
 reply_of p b =
     if not (eqb (check_of p).number 0) then bare (Refused (check_of p).number (check_of p).place)
-    else if not (sound (records_of p) b) then bare (Refused 20 0)
-    else sound_reply (records_of p) b
+    else (if not (sound (records_of p) b) then bare (Refused 20 0)
+    else sound_reply (records_of p) b)

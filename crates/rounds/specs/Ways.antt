@@ -1,7 +1,6 @@
 -- Tables of ways: walks of negative edges and then non-negative ones. What a round over the negative edges does to one, and
 -- what the functions that make the rounds ask and do. A reader of the rules can leave this page out. Assumes nothing.
-use Rattle.std.specs.Prelude.{◌≡◌, ◌⊎◌, ◌≢◌, List, [], ◌∷◌, ℕ, min, ◌+◌, ◌-◌, ◌<◌, ◌≤◌, eqb, length, get_or}
-use Rattle.plan.specs.Choice.{if◌then◌else◌}
+use Rattle.std.specs.Prelude.{◌≡◌, ◌⊎◌, ◌≢◌, List, [], ◌∷◌, ℕ, min, ◌+◌, ◌-◌, ◌<◌, ◌≤◌, eqb, length, get_or, if◌then◌else◌}
 use Rattle.network.specs.Walks.{Walk, NonNegative, Vee}
 use Rattle.tables.specs.Tables.{Table, bias, none, side, room}
 use Rattle.tables.specs.Entries.{nowhere, far, small, raw, at, Lesser, Shallow}
@@ -75,9 +74,9 @@ pub record LowerDone (n x z drop : ℕ) (t t' : List ℕ) : Type 0 where
 unfoldable pub fall_of : Row → ℕ → Fall
 fall_of r p =
     if eqb r.kind 3 then record { from = r.from; to = r.to; drop = r.second - r.first }
-    else if eqb r.kind 4 then record { from = r.from; to = r.to; drop = min r.first p }
-    else if eqb r.kind 2 then record { from = r.to; to = r.from; drop = p }
-    else record { from = 0; to = 0; drop = 0 }
+    else (if eqb r.kind 4 then record { from = r.from; to = r.to; drop = min r.first p }
+    else (if eqb r.kind 2 then record { from = r.to; to = r.from; drop = p }
+    else record { from = 0; to = 0; drop = 0 }))
 
 -- v is the weight of a way from X to Y
 pub record Reached (E : ℕ → ℕ → ℕ → ℕ → Type 0) (X Y v : ℕ) : Type 0 where

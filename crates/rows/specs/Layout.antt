@@ -1,6 +1,5 @@
 -- The sheet of a plan: the row of each record. A reader of the rules can leave this page out. Assumes nothing.
-use Rattle.std.specs.Prelude.{◌≡◌, List, ℕ, ◌+◌, ◌*◌, ◌<◌, ◌≤◌, length, get_or, set}
-use Rattle.plan.specs.Choice.{if◌then◌else◌}
+use Rattle.std.specs.Prelude.{◌≡◌, List, ℕ, ◌+◌, ◌*◌, ◌<◌, ◌≤◌, length, get_or, set, if◌then◌else◌}
 use Rattle.plan.specs.APlan.{link, wait, is, blank, gap_of, link_to}
 use Rattle.records.specs.declared.Record.{Record}
 use Rattle.rows.specs.declared.layout.Laid.{Laid}

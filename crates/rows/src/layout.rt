@@ -1,6 +1,5 @@
 // A plan's records laid out on a sheet.
-ghost use Rattle.std.specs.Prelude.{◌≡◌, ◌≤◌, ◌<◌, replicate};
-ghost use Rattle.plan.specs.Choice.{if◌then◌else◌};
+ghost use Rattle.std.specs.Prelude.{◌≡◌, ◌≤◌, ◌<◌, replicate, if◌then◌else◌};
 ghost use Rattle.plan.specs.APlan.{records_of};
 ghost use Rattle.plan.specs.Limits.{most_records};
 ghost use Rattle.rows.specs.Sheet.{sheet_room};

@@ -3,7 +3,7 @@ use mathlib.Core.Path.{◌≡◌, refl}
 use mathlib.Core.Bool.{Bool, true, false, not}
 use Prim.Native.Nat.{ℕ, suc}
 use native.Mathlib.Omega.{arith}
-use Rattle.numbers.specs.Choice.{if◌then◌else◌}
+use Rattle.std.specs.Prelude.{if◌then◌else◌}
 use Rattle.records.specs.Records.{Kind}
 use Rattle.rules.specs.OneRecord.{Before, is_known, in_order, room_for, zeros, named, apart, single, joined, bounded, number_for, number_for_with}
 use Rattle.records.specs.declared.Record.{Record}

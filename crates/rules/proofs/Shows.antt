@@ -11,7 +11,7 @@ use native.Mathlib.Decide.{ℕ_discrete}
 use lib.Seq.{set-get_or, get_or-set_same, get_or-set_other}
 use Rattle.points.specs.Sets.{member, with_of}
 use Rattle.points.proofs.Laws.{member_with, member_empty}
-use Rattle.numbers.specs.Choice.{if◌then◌else◌}
+use Rattle.std.specs.Prelude.{if◌then◌else◌}
 use Rattle.records.specs.Limits.{most_points}
 use Rattle.records.specs.Records.{Kind, point, link, ordinary, wait, unknown, kind_of, byte_of, is, one, how_many, some, points, watched, ends_at, from_to, leads, first_that, link_to}
 use Rattle.rules.specs.OneRecord.{Before, after, is_known, last_kind, in_order, room_for, zeros, named, apart, single, joined, bounded, number_for, number_for_with, number_of}
@@ -66,11 +66,11 @@ shows_none =
 
 -- the rules after 8
 abbrev past_8 : Kind → Before → Record → ℕ
-past_8 k b r = if not (apart k r) then 9 else if not (single b k r) then 15 else if not (joined b k r) then 10 else if not (bounded b k r) then 11 else 0
+past_8 k b r = if not (apart k r) then 9 else (if not (single b k r) then 15 else (if not (joined b k r) then 10 else (if not (bounded b k r) then 11 else 0)))
 
 -- two chains of rules that agree up to 8 agree where they agree after it
 upto_8 : (o m z n : Bool) (x y : ℕ) → (n ≡ true → x ≡ y)
-    → (if not o then 5 else if not m then 6 else if not z then 7 else if not n then 8 else x) ≡ (if not o then 5 else if not m then 6 else if not z then 7 else if not n then 8 else y)
+    → (if not o then 5 else (if not m then 6 else (if not z then 7 else (if not n then 8 else x)))) ≡ (if not o then 5 else (if not m then 6 else (if not z then 7 else (if not n then 8 else y))))
 upto_8 o m z true x y h = rw (h refl)
 upto_8 o m z false x y h = refl
 

@@ -1,8 +1,7 @@
 -- What the functions behind the one-record reader compute. A reader of the rules can leave this page out: the open functions'
 -- contracts do not cite it. Assumes nothing.
-use Rattle.std.specs.Prelude.{not, ℕ, ◌+◌, ◌≤◌, eqb, pos}
+use Rattle.std.specs.Prelude.{not, ℕ, ◌+◌, ◌≤◌, eqb, pos, if◌then◌else◌}
 use Rattle.points.specs.Sets.{member, with_of}
-use Rattle.numbers.specs.Choice.{if◌then◌else◌}
 use Rattle.records.specs.Limits.{most_records}
 use Rattle.records.specs.Records.{Kind, point, link, ordinary, wait, unknown, is, one}
 use Rattle.records.specs.declared.Record.{Record}
@@ -55,14 +54,14 @@ kept_of k b r z =
 unfoldable pub broken_of : Kept → ℕ
 broken_of k =
     if not k.order then 5
-    else if not k.room then 6
-    else if not k.zeros then 7
-    else if not k.named then 8
-    else if not k.apart then 9
-    else if not k.single then 15
-    else if not k.joined then 10
-    else if not k.bounded then 11
-    else 0
+    else (if not k.room then 6
+    else (if not k.zeros then 7
+    else (if not k.named then 8
+    else (if not k.apart then 9
+    else (if not k.single then 15
+    else (if not k.joined then 10
+    else (if not k.bounded then 11
+    else 0)))))))
 
 -- no count is past the records that a plan has room for
 pub record Few (s : Seen) : Type 0 where

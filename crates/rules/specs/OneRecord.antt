@@ -1,8 +1,7 @@
 -- Document 01, "Reply numbers", 4 to 11, and document 02, §3, 15, and §8, 10 for a link: what a record is refused for, after the
 -- records before it. Number 0 is no number of the document: it says that nothing is refused. Assumes nothing.
-use Rattle.std.specs.Prelude.{Bool, true, false, not, ◌&&◌, List, [], ◌∷◌, ℕ, eqb, ltb, leb, ℤ, pos, neg_ℤ}
+use Rattle.std.specs.Prelude.{Bool, true, false, not, ◌&&◌, List, [], ◌∷◌, ℕ, eqb, ltb, leb, ℤ, pos, neg_ℤ, if◌then◌else◌}
 use Rattle.std.specs.Int.Signed.{le_z, lt_z}
-use Rattle.numbers.specs.Choice.{if◌then◌else◌}
 use Rattle.numbers.specs.Numbers.{is_nought}
 use Rattle.records.specs.Limits.{most_ordinary, farthest}
 use Rattle.records.specs.Records.{Kind, point, link, ordinary, wait, unknown, kind_of, is, most_with, how_many, watched, leads, link_to}
@@ -110,15 +109,15 @@ bounded b unknown r = true
 unfoldable pub number_for_with : ℕ → Kind → Before → Record → ℕ → ℕ
 number_for_with m k b r z =
     if not (is_known k) then 4
-    else if not (in_order b r) then 5
-    else if not (room_for_with m b k) then 6
-    else if not (zeros k r z) then 7
-    else if not (named b k r) then 8
-    else if not (apart k r) then 9
-    else if not (single b k r) then 15
-    else if not (joined b k r) then 10
-    else if not (bounded b k r) then 11
-    else 0
+    else (if not (in_order b r) then 5
+    else (if not (room_for_with m b k) then 6
+    else (if not (zeros k r z) then 7
+    else (if not (named b k r) then 8
+    else (if not (apart k r) then 9
+    else (if not (single b k r) then 15
+    else (if not (joined b k r) then 10
+    else (if not (bounded b k r) then 11
+    else 0))))))))
 
 abbrev pub number_with : ℕ → Before → Record → ℕ → ℕ
 number_with m b r z = number_for_with m (kind_of r.kind) b r z

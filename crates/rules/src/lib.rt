@@ -6,9 +6,8 @@
 
 #![tactic(auto)]
 
-ghost use Rattle.std.specs.Prelude.{◌≡◌};
+ghost use Rattle.std.specs.Prelude.{◌≡◌, if◌then◌else◌};
 ghost use Rattle.points.specs.Sets.{with_of};
-ghost use Rattle.numbers.specs.Choice.{if◌then◌else◌};
 ghost use Rattle.records.specs.Records.{point, link, ordinary, wait};
 ghost use Rattle.rules.specs.OneRecord.{named, number_of};
 ghost use Rattle.rules.specs.Inside.{told, no_ending, kept_of, broken_of, Few, fresh, with_record, one_of, number_in, ending_after, seconds_after};

@@ -1,8 +1,7 @@
 -- What the table l of a plan's links says of them, by the set `done` of done points and the minute of each: which are
 -- running, whether each is sound, and an event's numbers 24 to 27. No reader of the rules needs this page. Assumes nothing.
-use Rattle.std.specs.Prelude.{Bool, not, ◌&&◌, ◌||◌, List, ℕ, ◌+◌, ltb, leb, get_or}
+use Rattle.std.specs.Prelude.{Bool, not, ◌&&◌, ◌||◌, List, ℕ, ◌+◌, ltb, leb, get_or, if◌then◌else◌}
 use Rattle.points.specs.Sets.{member, members_of, every}
-use Rattle.plan.specs.Choice.{if◌then◌else◌}
 use Rattle.history.specs.History.{minute_in}
 use Rattle.links.specs.Inside.{no_end, runs_at, timely_at}
 use Rattle.links.specs.declared.End.{End}
@@ -43,7 +42,7 @@ not_late_at l done minutes t ended c = not_late_to done (end_at l c) (minute_in 
 unfoldable pub set_number_of : Links → ℕ → ℕ → List ℕ → ℕ → ℕ → ℕ → ℕ
 set_number_of l clock done minutes t set next =
     if ltb t clock then 24
-    else if not (every (runs_at done l) (members_of set)) then 25
-    else if not (every (timely_at minutes l t) (members_of set)) then 26
-    else if not (every (not_late_at l done minutes t set) (members_of l.watched)) then 27
-    else next
+    else (if not (every (runs_at done l) (members_of set)) then 25
+    else (if not (every (timely_at minutes l t) (members_of set)) then 26
+    else (if not (every (not_late_at l done minutes t set) (members_of l.watched)) then 27
+    else next)))

@@ -8,7 +8,7 @@ use native.Mathlib.Numerals.{add-one}
 use lib.Dec.{eqb, eqb-suc-suc}
 use lib.ListN.{length, get_or}
 use borrow.Author.Tests.{eq-eqb, ne_eqb, eqb-true, eqb-false}
-use Rattle.numbers.specs.Choice.{if◌then◌else◌}
+use Rattle.std.specs.Prelude.{if◌then◌else◌}
 use Rattle.numbers.specs.Fits.{All, IsByte}
 use Rattle.values.specs.Inside.{fresh, with_all, number_in, value_in}
 use Rattle.values.proofs.Tells.{tells_all}
@@ -166,11 +166,11 @@ each_holds (n ∷ ns) p (f ∷ gs) e = go (holds n f) refl e (λ q. each_holds n
 abbrev list : Bool → Bool → Bool → Bool → Bool → List ℕ
 list a b c d e =
     if a then a_point ∷ a_count ∷ []
-    else if b then a_point ∷ a_number ∷ a_number ∷ a_point ∷ []
-    else if c then a_point ∷ a_number ∷ a_point ∷ []
-    else if d then a_point ∷ a_point ∷ a_number ∷ []
-    else if e then []
-    else a_count ∷ a_point_or_none ∷ a_set ∷ []
+    else (if b then a_point ∷ a_number ∷ a_number ∷ a_point ∷ []
+    else (if c then a_point ∷ a_number ∷ a_point ∷ []
+    else (if d then a_point ∷ a_point ∷ a_number ∷ []
+    else (if e then []
+    else a_count ∷ a_point_or_none ∷ a_set ∷ []))))
 
 -- no kind has more than four words behind its own, and none expects nothing
 pub few : (k : ℕ) → (length (expected k) ≤ 4) × All (λ n. 1 ≤ n) (expected k)
@@ -272,17 +272,17 @@ module _ (cells : List Word) where
       go : (t u v w x : Bool) → length gs ≡ length (list t u v w x) → Each (list t u v w x) gs
           → ◌≡◌ {A = Said}
           (if t then Plan (point_record (point_in (cell 1 cells)) (count_in (cell 2 cells)))
-          else if u then Plan (link_record (point_in (cell 1 cells)) (value_in (cell 2 cells).seen) (value_in (cell 3 cells).seen) (point_in (cell 4 cells)))
-          else if v then Plan (ordinary_record (point_in (cell 1 cells)) (value_in (cell 2 cells).seen) (point_in (cell 3 cells)))
-          else if w then Plan (wait_record (point_in (cell 1 cells)) (point_in (cell 2 cells)) (value_in (cell 3 cells).seen))
-          else if x then Mark
-          else Event (count_in (cell 1 cells)) (point_or_none_by (cell 2 cells).seen) (set_by (cell 3 cells)))
+          else (if u then Plan (link_record (point_in (cell 1 cells)) (value_in (cell 2 cells).seen) (value_in (cell 3 cells).seen) (point_in (cell 4 cells)))
+          else (if v then Plan (ordinary_record (point_in (cell 1 cells)) (value_in (cell 2 cells).seen) (point_in (cell 3 cells)))
+          else (if w then Plan (wait_record (point_in (cell 1 cells)) (point_in (cell 2 cells)) (value_in (cell 3 cells).seen))
+          else (if x then Mark
+          else Event (count_in (cell 1 cells)) (point_or_none_by (cell 2 cells).seen) (set_by (cell 3 cells)))))))
           (if t then Plan (point_record (value_of (word 0 gs)) (value_of (word 1 gs)))
-          else if u then Plan (link_record (value_of (word 0 gs)) (number_of (word 1 gs)) (number_of (word 2 gs)) (value_of (word 3 gs)))
-          else if v then Plan (ordinary_record (value_of (word 0 gs)) (number_of (word 1 gs)) (value_of (word 2 gs)))
-          else if w then Plan (wait_record (value_of (word 0 gs)) (value_of (word 1 gs)) (number_of (word 2 gs)))
-          else if x then Mark
-          else Event (value_of (word 0 gs)) (point_or_none (word 1 gs)) (set_of (word 2 gs)))
+          else (if u then Plan (link_record (value_of (word 0 gs)) (number_of (word 1 gs)) (number_of (word 2 gs)) (value_of (word 3 gs)))
+          else (if v then Plan (ordinary_record (value_of (word 0 gs)) (number_of (word 1 gs)) (value_of (word 2 gs)))
+          else (if w then Plan (wait_record (value_of (word 0 gs)) (value_of (word 1 gs)) (number_of (word 2 gs)))
+          else (if x then Mark
+          else Event (value_of (word 0 gs)) (point_or_none (word 1 gs)) (set_of (word 2 gs)))))))
       go true u v w x l e = point_said gs a q l e
       go false true v w x l e = link_said gs a q l e
       go false false true w x l e = ordinary_said gs (are_three gs l) a q e
@@ -298,7 +298,7 @@ module _ (cells : List Word) where
   -- behind the kind word
   kind_row_lem : (k : ℕ) (gs : List (List ℕ)) → All (All IsByte) gs → Kept cells gs
       → kind_row k (suc (length gs)) cells
-      ≡ as_told (if eqb k 0 then bad 1 else if not (eqb (length gs) (length (expected k))) then bad 2 else unless_wrong (first_wrong (expected k) gs) (said_by k gs))
+      ≡ as_told (if eqb k 0 then bad 1 else (if not (eqb (length gs) (length (expected k))) then bad 2 else unless_wrong (first_wrong (expected k) gs) (said_by k gs)))
   unfolding kind_row
   kind_row_lem k gs a q = rw (same_suc (length gs) (length (expected k))) (go (eqb k 0) (eqb (length gs) (length (expected k))) refl)
     where
@@ -309,8 +309,8 @@ module _ (cells : List Word) where
 
       go : (z t : Bool) → eqb (length gs) (length (expected k)) ≡ t
           → ◌≡◌ {A = Told}
-          (if z then bad_row 1 else if not t then bad_row 2 else if not (eqb (wrong_by (places_of k) cells) 0) then bad_row (wrong_by (places_of k) cells) else good_row (said_in k cells))
-          (as_told (if z then bad 1 else if not t then bad 2 else unless_wrong (first_wrong (expected k) gs) (said_by k gs)))
+          (if z then bad_row 1 else (if not t then bad_row 2 else (if not (eqb (wrong_by (places_of k) cells) 0) then bad_row (wrong_by (places_of k) cells) else good_row (said_in k cells))))
+          (as_told (if z then bad 1 else (if not t then bad 2 else unless_wrong (first_wrong (expected k) gs) (said_by k gs))))
       go true t e = refl
       go false false e = refl
       go false true e =

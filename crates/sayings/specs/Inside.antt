@@ -1,6 +1,5 @@
 -- How the functions read a line's words, by what is kept of each. A reader of the rules can leave this page out. Assumes nothing.
-use Rattle.std.specs.Prelude.{Bool, false, not, List, [], ◌∷◌, ℕ, ◌+◌, ◌%◌, eqb, length, get_or}
-use Rattle.numbers.specs.Choice.{if◌then◌else◌}
+use Rattle.std.specs.Prelude.{Bool, false, not, List, [], ◌∷◌, ℕ, ◌+◌, ◌%◌, eqb, length, get_or, if◌then◌else◌}
 use Rattle.values.specs.Inside.{number_in, value_in}
 use Rattle.values.specs.declared.Seen.{Seen}
 use Rattle.phrases.specs.Inside.{below_in, kind_by, point_or_none_in, point_or_none_by, set_in, set_by}
@@ -33,10 +32,10 @@ cell i cells = get_or cells i (record { seen = zeros; set = 0; good = false; poi
 unfoldable pub holds_in : ℕ → Word → Bool
 holds_in n w =
     if eqb n a_point then below_in 256 w.seen
-    else if eqb n a_number then number_in w.seen
-    else if eqb n a_count then below_in 4294967296 w.seen
-    else if eqb n a_point_or_none then point_or_none_in w.seen
-    else set_in w
+    else (if eqb n a_number then number_in w.seen
+    else (if eqb n a_count then below_in 4294967296 w.seen
+    else (if eqb n a_point_or_none then point_or_none_in w.seen
+    else set_in w)))
 
 abbrev pub wrong_in : ℕ → Word → ℕ
 wrong_in n w = if holds_in n w then 0 else n
@@ -55,11 +54,11 @@ count_in w = w.seen.size % 4294967296
 unfoldable pub said_in : ℕ → List Word → Said
 said_in k cells =
     if eqb k 1 then Plan (point_record (point_in (cell 1 cells)) (count_in (cell 2 cells)))
-    else if eqb k 2 then Plan (link_record (point_in (cell 1 cells)) (value_in (cell 2 cells).seen) (value_in (cell 3 cells).seen) (point_in (cell 4 cells)))
-    else if eqb k 3 then Plan (ordinary_record (point_in (cell 1 cells)) (value_in (cell 2 cells).seen) (point_in (cell 3 cells)))
-    else if eqb k 4 then Plan (wait_record (point_in (cell 1 cells)) (point_in (cell 2 cells)) (value_in (cell 3 cells).seen))
-    else if eqb k 5 then Mark
-    else Event (count_in (cell 1 cells)) (point_or_none_by (cell 2 cells).seen) (set_by (cell 3 cells))
+    else (if eqb k 2 then Plan (link_record (point_in (cell 1 cells)) (value_in (cell 2 cells).seen) (value_in (cell 3 cells).seen) (point_in (cell 4 cells)))
+    else (if eqb k 3 then Plan (ordinary_record (point_in (cell 1 cells)) (value_in (cell 2 cells).seen) (point_in (cell 3 cells)))
+    else (if eqb k 4 then Plan (wait_record (point_in (cell 1 cells)) (point_in (cell 2 cells)) (value_in (cell 3 cells).seen))
+    else (if eqb k 5 then Mark
+    else Event (count_in (cell 1 cells)) (point_or_none_by (cell 2 cells).seen) (set_by (cell 3 cells))))))
 
 -- a row as it is told
 abbrev pub bad_row : ℕ → Told
@@ -76,9 +75,9 @@ as_told (good x) = good_row x
 unfoldable pub kind_row : ℕ → ℕ → List Word → Told
 kind_row k n cells =
     if eqb k 0 then bad_row a_kind
-    else if not (eqb n (places_of k).count) then bad_row so_many_words
-    else if not (eqb (wrong_by (places_of k) cells) 0) then bad_row (wrong_by (places_of k) cells)
-    else good_row (said_in k cells)
+    else (if not (eqb n (places_of k).count) then bad_row so_many_words
+    else (if not (eqb (wrong_by (places_of k) cells) 0) then bad_row (wrong_by (places_of k) cells)
+    else good_row (said_in k cells)))
 
 -- the row of a line of n words
 unfoldable pub row_by : ℕ → List Word → Told

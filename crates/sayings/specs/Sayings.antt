@@ -2,8 +2,7 @@
 --   point NUMBER POND | link A X Y C | ordinary X D Y | wait V C W | mark | event MINUTE POINT SET
 -- or it has no words; else it is bad, and a number says what was expected. What a word says is handed on from `phrases` and
 -- `values`. Assumes nothing.
-use Rattle.std.specs.Prelude.{Bool, not, List, [], ◌∷◌, ◌++◌, ℕ, ◌^◌, eqb, ℤ, pos, length, get_or, replicate}
-use Rattle.numbers.specs.Choice.{if◌then◌else◌}
+use Rattle.std.specs.Prelude.{Bool, not, List, [], ◌∷◌, ◌++◌, ℕ, ◌^◌, eqb, ℤ, pos, length, get_or, replicate, if◌then◌else◌}
 use Rattle.numbers.specs.Numbers.{word_bytes}
 use Rattle.records.specs.Limits.{record_bytes}
 use Rattle.records.specs.Bytes.{bytes_of}
@@ -50,20 +49,20 @@ a_set = 7
 unfoldable pub expected : ℕ → List ℕ
 expected k =
     if eqb k 1 then a_point ∷ a_count ∷ []
-    else if eqb k 2 then a_point ∷ a_number ∷ a_number ∷ a_point ∷ []
-    else if eqb k 3 then a_point ∷ a_number ∷ a_point ∷ []
-    else if eqb k 4 then a_point ∷ a_point ∷ a_number ∷ []
-    else if eqb k 5 then []
-    else a_count ∷ a_point_or_none ∷ a_set ∷ []
+    else (if eqb k 2 then a_point ∷ a_number ∷ a_number ∷ a_point ∷ []
+    else (if eqb k 3 then a_point ∷ a_number ∷ a_point ∷ []
+    else (if eqb k 4 then a_point ∷ a_point ∷ a_number ∷ []
+    else (if eqb k 5 then []
+    else a_count ∷ a_point_or_none ∷ a_set ∷ []))))
 
 -- the word is what is expected: "what its place cannot hold is refused"
 unfoldable pub holds : ℕ → List ℕ → Bool
 holds n f =
     if eqb n a_point then is_below 256 f
-    else if eqb n a_number then is_number f
-    else if eqb n a_count then is_below (2 ^ 32) f
-    else if eqb n a_point_or_none then is_point_or_none f
-    else is_set f
+    else (if eqb n a_number then is_number f
+    else (if eqb n a_count then is_below (2 ^ 32) f
+    else (if eqb n a_point_or_none then is_point_or_none f
+    else is_set f)))
 
 -- 0 where it is, else the number of what is expected
 abbrev pub wrong_of : ℕ → List ℕ → ℕ
@@ -99,11 +98,11 @@ word i fs = get_or fs i []
 unfoldable pub said_by : ℕ → List (List ℕ) → Said
 said_by k fs =
     if eqb k 1 then Plan (point_record (value_of (word 0 fs)) (value_of (word 1 fs)))
-    else if eqb k 2 then Plan (link_record (value_of (word 0 fs)) (number_of (word 1 fs)) (number_of (word 2 fs)) (value_of (word 3 fs)))
-    else if eqb k 3 then Plan (ordinary_record (value_of (word 0 fs)) (number_of (word 1 fs)) (value_of (word 2 fs)))
-    else if eqb k 4 then Plan (wait_record (value_of (word 0 fs)) (value_of (word 1 fs)) (number_of (word 2 fs)))
-    else if eqb k 5 then Mark
-    else Event (value_of (word 0 fs)) (point_or_none (word 1 fs)) (set_of (word 2 fs))
+    else (if eqb k 2 then Plan (link_record (value_of (word 0 fs)) (number_of (word 1 fs)) (number_of (word 2 fs)) (value_of (word 3 fs)))
+    else (if eqb k 3 then Plan (ordinary_record (value_of (word 0 fs)) (number_of (word 1 fs)) (value_of (word 2 fs)))
+    else (if eqb k 4 then Plan (wait_record (value_of (word 0 fs)) (value_of (word 1 fs)) (number_of (word 2 fs)))
+    else (if eqb k 5 then Mark
+    else Event (value_of (word 0 fs)) (point_or_none (word 1 fs)) (set_of (word 2 fs))))))
 
 -- a line says something, or it is bad: what was expected
 pub data Row : Type 0 where
@@ -118,8 +117,8 @@ unfoldable pub row_of : List (List ℕ) → Row
 row_of [] = good Nothing
 row_of (f ∷ fs) =
     if eqb (kind_of f) 0 then bad a_kind
-    else if not (eqb (length fs) (length (expected (kind_of f)))) then bad so_many_words
-    else unless_wrong (first_wrong (expected (kind_of f)) fs) (said_by (kind_of f) fs)
+    else (if not (eqb (length fs) (length (expected (kind_of f)))) then bad so_many_words
+    else unless_wrong (first_wrong (expected (kind_of f)) fs) (said_by (kind_of f) fs))
 
 abbrev pub line_row : List ℕ → Row
 line_row l = row_of (words_of l)

@@ -10,7 +10,7 @@ use lib.Dec.{eqb, ltb, leb}
 use lib.ListN.{length, get_or}
 use Rattle.points.specs.Sets.{member, from}
 use Rattle.points.proofs.Laws.{count_le, member_past}
-use Rattle.plan.specs.Choice.{if◌then◌else◌}
+use Rattle.std.specs.Prelude.{if◌then◌else◌}
 use Rattle.plan.specs.Limits.{most_points, farthest}
 use Rattle.plan.specs.APlan.{points, watched, link_to}
 use Rattle.plan.proofs.Accepted.{Accepted}

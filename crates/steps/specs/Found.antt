@@ -1,8 +1,7 @@
 -- The event that the kept numbers of a board give, whatever the rooms hold: `kept` is the room of them, n the number of points, `starts`
 -- has the A of the link that ends at each point and w its duration; s is the sheet. Assumes nothing.
-use Rattle.std.specs.Prelude.{◌≡◌, Bool, not, ◌&&◌, List, [], ◌∷◌, ℕ, zero, suc, ◌+◌, ◌%◌, ◌^◌, ◌<◌, min, eqb, ltb, leb, length, get_or}
+use Rattle.std.specs.Prelude.{◌≡◌, Bool, not, ◌&&◌, List, [], ◌∷◌, ℕ, zero, suc, ◌+◌, ◌%◌, ◌^◌, ◌<◌, min, eqb, ltb, leb, length, get_or, if◌then◌else◌}
 use Rattle.points.specs.Sets.{member, from}
-use Rattle.plan.specs.Choice.{if◌then◌else◌}
 use Rattle.plan.specs.Limits.{most_points}
 use Rattle.lowhigh.specs.Rules.{never}
 use Rattle.board.specs.Events.{no_point}

@@ -1,7 +1,6 @@
 -- Document 01, "The printing program": the input, record by record. A sheet is what has come so far; each record gives the
 -- next one, which says what there is to print. Assumes nothing.
-use Rattle.std.specs.Prelude.{ℕ, ◌+◌, ◌*◌, ◌%◌, ◌^◌, min, Bool, true, not, ◌&&◌, List, [], ◌∷◌, length, take, ◌==◌, nat_lt}
-use Rattle.plan.specs.Choice.{if◌then◌else◌}
+use Rattle.std.specs.Prelude.{ℕ, ◌+◌, ◌*◌, ◌%◌, ◌^◌, min, Bool, true, not, ◌&&◌, List, [], ◌∷◌, length, take, ◌==◌, nat_lt, if◌then◌else◌}
 use Rattle.plan.specs.Limits.{most_records, record_bytes}
 use Rattle.plan.specs.APlan.{plan_of}
 use Rattle.plan.specs.ReplyNumbers.{read_of}
@@ -87,12 +86,12 @@ quiet s = turned s s.stage nothing s.plan s.taken
 unfoldable pub next_of : Sheet → List ℕ → List ℕ → Sheet
 next_of s bytes buffer =
     if s.stage == planning then (if is_mark bytes then begun_of s buffer else longer s record_bytes)
-    else if s.stage == playing then played_of s bytes
-    else quiet s
+    else (if s.stage == playing then played_of s bytes
+    else quiet s)
 
 -- the input has ended, with n bytes of an unfinished record
 unfoldable pub ended_of : Sheet → ℕ → List ℕ → Sheet
 ended_of s n buffer =
     if s.stage == planning then begun_of (longer s n) buffer
-    else if not (n == 0) && s.stage == playing then turned s s.stage tail s.plan s.taken
-    else quiet s
+    else (if not (n == 0) && s.stage == playing then turned s s.stage tail s.plan s.taken
+    else quiet s)

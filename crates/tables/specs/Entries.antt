@@ -1,7 +1,6 @@
 -- Tables as the code keeps them, in numbers of 32 bits, and what a pass does to one. A reader of the rules can leave this page
 -- out. Assumes nothing.
-use Rattle.std.specs.Prelude.{◌≡◌, ◌⊎◌, ◌≢◌, Bool, List, ℕ, ◌+◌, ◌*◌, ◌<◌, ◌≤◌, ltb, length, get_or}
-use Rattle.plan.specs.Choice.{if◌then◌else◌}
+use Rattle.std.specs.Prelude.{◌≡◌, ◌⊎◌, ◌≢◌, Bool, List, ℕ, ◌+◌, ◌*◌, ◌<◌, ◌≤◌, ltb, length, get_or, if◌then◌else◌}
 use Rattle.plan.specs.Limits.{farthest}
 use Rattle.tables.specs.Tables.{Table, bias, none, side, room, Passed, Closed, Within}
 

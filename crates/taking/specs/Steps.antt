@@ -1,8 +1,7 @@
 -- What an event s does to the clock, the done points, their minutes and the numbers of their events, by the links l and the
 -- windows w. No reader of the rules needs this page. Assumes nothing.
-use Rattle.std.specs.Prelude.{◌≡◌, not, List, [], ◌∷◌, ◌++◌, ℕ, ◌+◌, ◌-◌, ◌^◌, ◌<◌, min, eqb, set}
+use Rattle.std.specs.Prelude.{◌≡◌, not, List, [], ◌∷◌, ◌++◌, ℕ, ◌+◌, ◌-◌, ◌^◌, ◌<◌, min, eqb, set, if◌then◌else◌}
 use Rattle.points.specs.Sets.{members_of, with_of}
-use Rattle.plan.specs.Choice.{if◌then◌else◌}
 use Rattle.history.specs.History.{largest}
 use Rattle.links.specs.declared.Links.{Links}
 use Rattle.lowhigh.specs.Rules.{never}

@@ -1,6 +1,5 @@
 -- Document 01, "The printing program": each line that the programs print, from what it tells. Assumes nothing.
-use Rattle.std.specs.Prelude.{List, [], ◌∷◌, ℕ, ◌+◌, eqb, ℤ, pos, negsuc}
-use Rattle.numbers.specs.Choice.{if◌then◌else◌}
+use Rattle.std.specs.Prelude.{List, [], ◌∷◌, ℕ, ◌+◌, eqb, ℤ, pos, negsuc, if◌then◌else◌}
 use Rattle.records.specs.Records.{ordinary, wait, is}
 use Rattle.records.specs.declared.Record.{Record}
 use Rattle.points.specs.Sets.{count_of}
@@ -74,8 +73,8 @@ signed_piece (negsuc n) = Below (n + 1)
 abbrev pub record_pieces : Record → List Piece
 record_pieces r =
     if is ordinary r then Name ordinary_word ∷ Number r.a ∷ signed_piece r.first ∷ Number r.b ∷ []
-    else if is wait r then Name wait_word ∷ Number r.a ∷ Number r.b ∷ signed_piece r.first ∷ []
-    else []
+    else (if is wait r then Name wait_word ∷ Number r.a ∷ Number r.b ∷ signed_piece r.first ∷ []
+    else [])
 
 -- what a reply says of a point, which the record r keeps shut where one does
 abbrev pub state_pieces : State → Record → List Piece

@@ -8,7 +8,7 @@ use lib.Dec.{leb}
 use lib.IntN.{pos, negsuc}
 use lib.ListN.{length}
 use borrow.Author.Tests.{ne_eqb, eqb-true, lt-ltb, le-leb, leb-true}
-use Rattle.numbers.specs.Choice.{if◌then◌else◌}
+use Rattle.std.specs.Prelude.{if◌then◌else◌}
 use Rattle.values.specs.Values.{is_empty, is_digit, is_minus, all_digits, value_from, is_negative, unsigned, is_number, number_of}
 use Rattle.values.proofs.Tests.{both}
 

@@ -7,7 +7,7 @@ use native.Mathlib.Omega.{arith}
 use lib.IntN.{ℤ, pos, negsuc}
 use lib.Signed.{mag, le_z, lt_z}
 use borrow.Author.Tests.{ltb-true}
-use Rattle.numbers.specs.Choice.{if◌then◌else◌}
+use Rattle.std.specs.Prelude.{if◌then◌else◌}
 use Rattle.numbers.specs.Fits.{IsByte}
 use Rattle.values.specs.Values.{same, point_word, link_word, ordinary_word, wait_word, kind_of, is_empty, is_decimal, number_of, is_number, is_point, point_of, is_shaped, shaped_code, is_code, code_of}
 use Rattle.values.proofs.Tests.{both}
@@ -17,7 +17,7 @@ pub kind_fits : (f : List ℕ) → IsByte (kind_of f)
 unfolding kind_of
 kind_fits f = go (same f point_word) (same f link_word) (same f ordinary_word) (same f wait_word)
   where
-    go : (a b c d : Bool) → (if a then 1 else if b then 2 else if c then 3 else if d then 4 else 0) < 256
+    go : (a b c d : Bool) → (if a then 1 else (if b then 2 else (if c then 3 else (if d then 4 else 0)))) < 256
     go true b c d = omega arith
     go false true c d = omega arith
     go false false true d = omega arith

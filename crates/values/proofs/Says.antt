@@ -9,7 +9,7 @@ use lib.IntN.{ℤ, pos, neg_ℤ}
 use lib.ListN.{length, get_or, drop}
 use lib.Signed.{mag, le_z, lt_z}
 use borrow.Author.Tests.{eq-eqb, ne_eqb, eqb-true, eqb-false, lt-ltb, le-ltb, ltb-true, ltb-false, le-leb}
-use Rattle.numbers.specs.Choice.{if◌then◌else◌}
+use Rattle.std.specs.Prelude.{if◌then◌else◌}
 use Rattle.numbers.specs.Fits.{All, IsByte}
 use Rattle.numbers.specs.Numbers.{signed_of}
 use Rattle.values.specs.Values.{same, point_word, link_word, ordinary_word, wait_word, kind_of, is_empty, is_minus, all_digits, value_from}

@@ -1,7 +1,6 @@
 -- What the functions keep of a field while its bytes go by, and what they answer by it. A reader of the rules can leave this page
 -- out: the open functions' contracts do not cite it. Assumes nothing.
-use Rattle.std.specs.Prelude.{Bool, true, false, ◌&&◌, ◌||◌, not, List, [], ◌∷◌, ℕ, zero, suc, ◌+◌, ◌*◌, ◌-◌, ◌/◌, ◌%◌, ◌^◌, min, eqb, ltb, ℤ}
-use Rattle.numbers.specs.Choice.{if◌then◌else◌}
+use Rattle.std.specs.Prelude.{Bool, true, false, ◌&&◌, ◌||◌, not, List, [], ◌∷◌, ℕ, zero, suc, ◌+◌, ◌*◌, ◌-◌, ◌/◌, ◌%◌, ◌^◌, min, eqb, ltb, ℤ, if◌then◌else◌}
 use Rattle.numbers.specs.Numbers.{signed_of}
 use Rattle.values.specs.Values.{is_digit, is_capital, is_minus}
 use Rattle.values.specs.declared.Seen.{Seen}
@@ -37,10 +36,10 @@ word_in n w s = eqb s.count n && eqb s.word w
 unfoldable pub kind_in : Seen → ℕ
 kind_in s =
     if word_in 5 482905517684 s then 1
-    else if word_in 4 1818848875 s then 2
-    else if word_in 8 8030591489541239417 s then 3
-    else if word_in 4 2002872692 s then 4
-    else 0
+    else (if word_in 4 1818848875 s then 2
+    else (if word_in 8 8030591489541239417 s then 3
+    else (if word_in 4 2002872692 s then 4
+    else 0)))
 
 abbrev pub empty_in : Seen → Bool
 empty_in s = eqb s.count 0

@@ -1,9 +1,8 @@
 -- Document 02, §1: what a field says. "An empty field is 0, but an empty kind word is unreadable"; "numbers are decimal with an
 -- optional minus; one that its place in the record can't hold is unreadable"; "a pond code is two capital letters and four
 -- digits". Fields are bytes, ASCII codes. Assumes nothing.
-use Rattle.std.specs.Prelude.{Bool, true, false, ◌&&◌, ◌||◌, not, List, [], ◌∷◌, ℕ, ◌+◌, ◌*◌, ◌-◌, ◌^◌, eqb, leb, ltb, ℤ, pos, neg_ℤ, length, get_or, drop}
+use Rattle.std.specs.Prelude.{Bool, true, false, ◌&&◌, ◌||◌, not, List, [], ◌∷◌, ℕ, ◌+◌, ◌*◌, ◌-◌, ◌^◌, eqb, leb, ltb, ℤ, pos, neg_ℤ, length, get_or, drop, if◌then◌else◌}
 use Rattle.std.specs.Int.Signed.{mag, le_z, lt_z}
-use Rattle.numbers.specs.Choice.{if◌then◌else◌}
 use Rattle.values.specs.Ascii.{ascii}
 
 abbrev pub is_empty : List ℕ → Bool
@@ -32,10 +31,10 @@ wait_word = ascii "wait"
 unfoldable pub kind_of : List ℕ → ℕ
 kind_of f =
     if same f point_word then 1
-    else if same f link_word then 2
-    else if same f ordinary_word then 3
-    else if same f wait_word then 4
-    else 0
+    else (if same f link_word then 2
+    else (if same f ordinary_word then 3
+    else (if same f wait_word then 4
+    else 0)))
 
 abbrev pub is_kind : List ℕ → Bool
 is_kind f = not (eqb (kind_of f) 0)

@@ -1,7 +1,6 @@
 -- Document 01, "Verdict and plan test": the test of a plan. What the records of a plan say as a network, its projections in
 -- order, and what an answer of the test means. Assumes nothing.
-use Rattle.std.specs.Prelude.{◌≡◌, ◌≢◌, Bool, true, false, not, List, [], ◌∷◌, ◌++◌, ℕ, zero, suc, ◌+◌, ◌-◌, ◌*◌, ◌<◌, ◌≤◌, eqb, ltb, pos, length, get_or, set, replicate}
-use Rattle.plan.specs.Choice.{if◌then◌else◌}
+use Rattle.std.specs.Prelude.{◌≡◌, ◌≢◌, Bool, true, false, not, List, [], ◌∷◌, ◌++◌, ℕ, zero, suc, ◌+◌, ◌-◌, ◌*◌, ◌<◌, ◌≤◌, eqb, ltb, pos, length, get_or, set, replicate, if◌then◌else◌}
 use Rattle.plan.specs.Limits.{most_points}
 use Rattle.plan.specs.APlan.{Kind, link, ordinary, wait, is, blank, gap_of, records_of}
 use Rattle.plan.specs.ReplyNumbers.{check_of}
@@ -130,5 +129,5 @@ answer_values (answer.Pair i X Y) = i ∷ X ∷ Y ∷ []
 abbrev pub test_number : Plan → ℕ
 test_number p =
     if not (eqb (check_of p).number 0) then (check_of p).number
-    else if ltb most_projections (many (spans (records_of p))) then 13
-    else 0
+    else (if ltb most_projections (many (spans (records_of p))) then 13
+    else 0)

@@ -1,7 +1,6 @@
 -- Document 01, "Verdict and plan test": the test of a plan, computed. A projection has three tables of distances: of all its
 -- edges, of the negative ones and of the others. Each is closed by a pass for each point. Assumes nothing.
-use Rattle.std.specs.Prelude.{Bool, true, false, not, ◌&&◌, List, [], ◌∷◌, ◌++◌, ℕ, zero, suc, min, ◌+◌, ◌-◌, eqb, ltb, leb, get_or}
-use Rattle.plan.specs.Choice.{if◌then◌else◌}
+use Rattle.std.specs.Prelude.{Bool, true, false, not, ◌&&◌, List, [], ◌∷◌, ◌++◌, ℕ, zero, suc, min, ◌+◌, ◌-◌, eqb, ltb, leb, get_or, if◌then◌else◌}
 use Rattle.plan.specs.APlan.{link, ordinary, wait, is, points, link_to, gap_of, records_of}
 use Rattle.plan.specs.ReplyNumbers.{check_of}
 use Rattle.records.specs.declared.Record.{Record}
@@ -32,9 +31,9 @@ arc X Y u d = record { from = X; to = Y; up = u; down = d }
 abbrev pub arcs_of : List Record → List ℕ → Record → List Arc
 arcs_of rs w r =
     if is ordinary r then arc r.a r.b (gap_of r.first).up (gap_of r.first).down ∷ []
-    else if is link r then arc r.a r.b (by w r.b) 0 ∷ arc r.b r.a 0 (by w r.b) ∷ []
-    else if is wait r then arc r.a (link_to rs r.b).a 0 (min (gap_of r.first).up (by w r.b)) ∷ []
-    else []
+    else (if is link r then arc r.a r.b (by w r.b) 0 ∷ arc r.b r.a 0 (by w r.b) ∷ []
+    else (if is wait r then arc r.a (link_to rs r.b).a 0 (min (gap_of r.first).up (by w r.b)) ∷ []
+    else []))
 
 -- the edges of some of the records
 unfoldable pub arcs : List Record → List ℕ → List Record → List Arc
@@ -148,5 +147,5 @@ test_from rs i (w ∷ ws) = onward (judge_of (points rs) i (arcs rs w rs)) (λ j
 unfoldable pub test_of : Plan → Answer
 test_of p =
     if not (eqb (check_of p).number 0) then answer.Refused (check_of p).number (check_of p).place
-    else if ltb most_projections (many (spans (records_of p))) then answer.Refused 13 0
-    else test_from (records_of p) 0 (projections (spans (records_of p)) unset)
+    else (if ltb most_projections (many (spans (records_of p))) then answer.Refused 13 0
+    else test_from (records_of p) 0 (projections (spans (records_of p)) unset))

@@ -11,7 +11,7 @@ use lib.ListN.{length, drop, get_or, drop_of_length-le}
 use lib.Seq.{drop-cons}
 use borrow.Author.Tests.{eqb-true, ne_eqb}
 use Rattle.points.specs.Sets.{below_of}
-use Rattle.plan.specs.Choice.{if◌then◌else◌}
+use Rattle.std.specs.Prelude.{if◌then◌else◌}
 use Rattle.plan.specs.Limits.{most_points}
 use Rattle.plan.specs.APlan.{point, ordinary, wait, is, link_to, gap_of, blank, records_of}
 use Rattle.plan.proofs.Accepted.{Rules, Accepted, not_a}
@@ -51,8 +51,8 @@ module _ (rs : List Record) (ok : Accepted rs) (ends : List End) (found : (p : �
       (omega arith, omega arith, omega arith)
 
   by_kind : (o w : Bool) → is ordinary r ≡ o → is wait r ≡ w
-      → (if o then bound_kept (read r.a) r.first (read r.b) else if w then leb (read from + min (gap_of r.first).up (read r.b - read from)) (read r.a) else true)
-      ≡ (if o then ordinary_kept b r else if w then wait_kept b (link_to rs r.b) r else true)
+      → (if o then bound_kept (read r.a) r.first (read r.b) else (if w then leb (read from + min (gap_of r.first).up (read r.b - read from)) (read r.a) else true))
+      ≡ (if o then ordinary_kept b r else (if w then wait_kept b (link_to rs r.b) r else true))
   by_kind true w f e = let s = below (not_a r ordinary point (λ k. omega arith) f) in rw (s.0, s.1)
   by_kind false false f e = refl
   by_kind false true f e =
@@ -101,7 +101,7 @@ ended_accepted p b = go (check_of p) _ (eqb (check_of p).number 0) refl
 
 -- 20 and 31 by their two tests
 abbrev ended_as : Bool → Bool → Refusal
-ended_as s f = if not s then refusal 20 0 else if not f then refusal 31 0 else accepted
+ended_as s f = if not s then refusal 20 0 else (if not f then refusal 31 0 else accepted)
 
 -- whatever the code has for them
 pub ended_as_lem : (l : Links) (b : Board) {x s y f : Bool} → x ≡ sound_by l b → x ≡ s → y ≡ eqb b.done (below_of l.points) → y ≡ f → ended_as s f ≡ ended_by l b

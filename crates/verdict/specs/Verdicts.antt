@@ -1,6 +1,5 @@
 -- Document 01, "Verdict and plan test": the verdict on a finished board. Assumes nothing.
-use Rattle.std.specs.Prelude.{Bool, true, not, List, [], ◌∷◌, ℕ, suc, ◌+◌, ◌-◌, min, eqb, leb}
-use Rattle.plan.specs.Choice.{if◌then◌else◌}
+use Rattle.std.specs.Prelude.{Bool, true, not, List, [], ◌∷◌, ℕ, suc, ◌+◌, ◌-◌, min, eqb, leb, if◌then◌else◌}
 use Rattle.plan.specs.APlan.{ordinary, wait, is, link_to, gap_of, records_of}
 use Rattle.plan.specs.ReplyNumbers.{check_of, refusal, accepted}
 use Rattle.records.specs.declared.Record.{Record}
@@ -25,8 +24,8 @@ wait_kept b l r = leb (minute b l.a + min (gap_of r.first).up (minute b l.b - mi
 abbrev pub kept : List Record → Board → Record → Bool
 kept rs b r =
     if is ordinary r then ordinary_kept b r
-    else if is wait r then wait_kept b (link_to rs r.b) r
-    else true
+    else (if is wait r then wait_kept b (link_to rs r.b) r
+    else true)
 
 -- the first broken one of some records, counted from i
 unfoldable pub first_broken : List Record → Board → ℕ → List Record → Verdict
@@ -37,9 +36,9 @@ first_broken rs b i (x ∷ xs) = if kept rs b x then first_broken rs b (suc i) x
 unfoldable pub ended_of : Plan → Board → Refusal
 ended_of p b =
     if not (eqb (check_of p).number 0) then check_of p
-    else if not (sound (records_of p) b) then refusal 20 0
-    else if not (finished (records_of p) b) then refusal 31 0
-    else accepted
+    else (if not (sound (records_of p) b) then refusal 20 0
+    else (if not (finished (records_of p) b) then refusal 31 0
+    else accepted))
 
 -- that, then the verdict
 unfoldable pub verdict_of : Plan → Board → Verdict

@@ -1,6 +1,5 @@
 -- The steps of a way, and the edges of a sheet's rows as steps, two for each row. Assumes nothing.
-use Rattle.std.specs.Prelude.{◌≡◌, Bool, ◌&&◌, List, [], ◌∷◌, ◌++◌, ℕ, min, ◌+◌, ◌-◌, ◌/◌, ◌%◌, ◌<◌, eqb, ltb, length, replicate, set}
-use Rattle.plan.specs.Choice.{if◌then◌else◌}
+use Rattle.std.specs.Prelude.{◌≡◌, Bool, ◌&&◌, List, [], ◌∷◌, ◌++◌, ℕ, min, ◌+◌, ◌-◌, ◌/◌, ◌%◌, ◌<◌, eqb, ltb, length, replicate, set, if◌then◌else◌}
 use Rattle.tables.specs.Tables.{side}
 use Rattle.rows.specs.declared.sheet.Row.{Row}
 use Rattle.rows.specs.Sheet.{row_at, by, over_at, Laid}
@@ -41,9 +40,9 @@ with_step r e = record { count = r.count + 1; steps = set r.steps r.count e }
 unfoldable pub step_of : Row → ℕ → ℕ → Bool → Step
 step_of r q p back =
     if eqb r.kind 3 then record { row = q; from = r.from; to = r.to; up = r.first; down = r.second }
-    else if eqb r.kind 4 then record { row = q; from = r.from; to = r.to; up = 0; down = min r.first p }
-    else if back then record { row = q; from = r.to; to = r.from; up = 0; down = p }
-    else record { row = q; from = r.from; to = r.to; up = p; down = 0 }
+    else (if eqb r.kind 4 then record { row = q; from = r.from; to = r.to; up = 0; down = min r.first p }
+    else (if back then record { row = q; from = r.to; to = r.from; up = 0; down = p }
+    else record { row = q; from = r.from; to = r.to; up = p; down = 0 }))
 
 -- edge k of a sheet at the durations w
 abbrev pub step_at : List ℕ → List ℕ → ℕ → Step

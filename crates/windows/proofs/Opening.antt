@@ -6,7 +6,7 @@ use Prim.Native.Nat.{ℕ, ◌≤◌, ◌<◌, min}
 use native.Mathlib.Omega.{arith}
 use lib.Dec.{eqb, ltb}
 use borrow.Author.Tests.{ltb-true}
-use Rattle.plan.specs.Choice.{if◌then◌else◌}
+use Rattle.std.specs.Prelude.{if◌then◌else◌}
 use lib.ListN.{get_or}
 use Rattle.points.specs.Sets.{member, members_of, below_of}
 use Rattle.points.proofs.Laws.{Turn, members_empty, member_below}

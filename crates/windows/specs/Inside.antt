@@ -1,7 +1,6 @@
 -- What the windows are, and what is answered by them. No reader of the rules needs this page. Assumes nothing.
-use Rattle.std.specs.Prelude.{◌≡◌, Bool, true, false, not, ◌&&◌, ◌||◌, List, [], ◌∷◌, ℕ, ◌+◌, ◌-◌, ◌^◌, ◌<◌, min, eqb, ltb, leb, length, get_or}
+use Rattle.std.specs.Prelude.{◌≡◌, Bool, true, false, not, ◌&&◌, ◌||◌, List, [], ◌∷◌, ℕ, ◌+◌, ◌-◌, ◌^◌, ◌<◌, min, eqb, ltb, leb, length, get_or, if◌then◌else◌}
 use Rattle.points.specs.Sets.{member, members_of, below_of, every}
-use Rattle.plan.specs.Choice.{if◌then◌else◌}
 use Rattle.plan.specs.Limits.{most_points, farthest}
 use Rattle.plan.specs.APlan.{some, points}
 use Rattle.records.specs.declared.Record.{Record}
@@ -49,9 +48,9 @@ latest_from clock high = min high (clock + farthest + farthest) - farthest
 unfoldable pub point_from : Windows → ℕ → ℕ → ℕ → ℕ
 point_from w m t p =
     if not (eqb p no_point || member w.opens p) then 28
-    else if not (eqb p no_point || leb (get_or w.lows p 0) t) then 29
-    else if not (eqb w.opens 0) && ltb m t then 30
-    else 0
+    else (if not (eqb p no_point || leb (get_or w.lows p 0) t) then 29
+    else (if not (eqb w.opens 0) && ltb m t then 30
+    else 0))
 
 -- q is a foreman's point not yet done, from the links
 abbrev pub foreman_in : Links → ℕ → ℕ → Bool

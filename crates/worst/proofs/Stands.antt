@@ -10,7 +10,7 @@ use native.Mathlib.Decide.{dec_lt}
 use lib.Dec.{eqb, ltb}
 use lib.ListN.{length, get_or}
 use borrow.Author.Tests.{eqb-true, ne_eqb, ltb-false, lt-ltb, le-ltb}
-use Rattle.plan.specs.Choice.{if◌then◌else◌}
+use Rattle.std.specs.Prelude.{if◌then◌else◌}
 use Rattle.plan.specs.Limits.{farthest}
 use Rattle.plan.specs.APlan.{points, link_to, records_of}
 use Rattle.plan.specs.ReplyNumbers.{check_of, refusal, accepted}
@@ -170,7 +170,7 @@ module _ (p : Plan) where
   granted e = go (eqb (check_of p).number 0) (ltb most_projections (many (spans (records_of p)))) (is_yes (test_of p)) refl refl refl e
     where
       go : (a b c : Bool) → eqb (check_of p).number 0 ≡ a → ltb most_projections (many (spans (records_of p))) ≡ b → is_yes (test_of p) ≡ c
-          → (if not a then check_of p else if b then refusal 13 0 else if not c then refusal 60 0 else accepted).number ≡ 0 → Granted
+          → (if not a then check_of p else (if b then refusal 13 0 else (if not c then refusal 60 0 else accepted))).number ≡ 0 → Granted
       go false b c f g h e = clash (rw e at f)
       go true true c f g h e = absurd (omega arith)
       go true false false f g h e = absurd (omega arith)

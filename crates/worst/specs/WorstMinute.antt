@@ -1,7 +1,6 @@
 -- Document 02, §13, "Worst finishing minute": the largest finishing minute over all projections, and the day of one. Assumes
 -- nothing.
-use Rattle.std.specs.Prelude.{Bool, true, false, not, List, [], ◌∷◌, ◌++◌, ℕ, ◌*◌, eqb, ltb, length, get_or, drop}
-use Rattle.plan.specs.Choice.{if◌then◌else◌}
+use Rattle.std.specs.Prelude.{Bool, true, false, not, List, [], ◌∷◌, ◌++◌, ℕ, ◌*◌, eqb, ltb, length, get_or, drop, if◌then◌else◌}
 use Rattle.plan.specs.Limits.{record_bytes}
 use Rattle.plan.specs.APlan.{records_of}
 use Rattle.plan.specs.ReplyNumbers.{check_of, refusal, accepted}
@@ -33,9 +32,9 @@ is_yes (answer.Pair i X Y) = false
 unfoldable pub refused_of : Plan → Refusal
 refused_of p =
     if not (eqb (check_of p).number 0) then check_of p
-    else if ltb most_projections (many (spans (records_of p))) then refusal 13 0
-    else if not (is_yes (test_of p)) then refusal 60 0
-    else accepted
+    else (if ltb most_projections (many (spans (records_of p))) then refusal 13 0
+    else (if not (is_yes (test_of p)) then refusal 60 0
+    else accepted))
 
 -- that, or the largest finishing minute and the first projection that reaches it
 unfoldable pub worst_of : Plan → Worst
@@ -66,8 +65,8 @@ day number place events = record { number = number; place = place; events = even
 unfoldable pub day_of : Plan → ℕ → List ℕ → Day
 day_of p n out =
     if not (eqb (refused_of p).number 0) then day (refused_of p).number (refused_of p).place 0
-    else if ltb (length out) (record_bytes * length (day_events p n)) then day 12 0 0
-    else day 0 0 (length (day_events p n))
+    else (if ltb (length out) (record_bytes * length (day_events p n)) then day 12 0 0
+    else day 0 0 (length (day_events p n)))
 
 -- what the buffer holds then: a refusal changes no byte; else the events at its front, and the rest as it was
 unfoldable pub day_written : Plan → ℕ → List ℕ → List ℕ

@@ -7,7 +7,7 @@ use Prim.Native.Nat.{ℕ, ◌+◌, ◌-◌, ◌≤◌, ◌<◌}
 use native.Mathlib.Omega.{arith}
 use lib.Dec.{eqb}
 use lib.ListN.{length, get_or}
-use Rattle.plan.specs.Choice.{if◌then◌else◌}
+use Rattle.std.specs.Prelude.{if◌then◌else◌}
 use Rattle.plan.specs.Limits.{farthest}
 use Rattle.plan.specs.APlan.{point, ordinary, wait, is, link_to, blank, gap_of}
 use Rattle.records.specs.declared.Record.{Record}
@@ -32,7 +32,7 @@ module _ (rs : List Record) (ok : Accepted rs) (b : Board) (w : Sound rs b) (q :
       l = link_to rs r.b
 
       go : (x y : Bool) → (eqb r.a q && (is ordinary r && is_done b r.b)) ≡ x → (eqb r.a q && (is wait r && running b l)) ≡ y
-          → (if x then minute b r.b + (gap_of r.first).down - (gap_of r.first).up else if y then minute b l.a + (gap_of r.first).up else 0) ≤ b.clock + farthest
+          → (if x then minute b r.b + (gap_of r.first).down - (gap_of r.first).up else (if y then minute b l.a + (gap_of r.first).up else 0)) ≤ b.clock + farthest
       go true y e f =
           let o = (both (is ordinary r) _ (both (eqb r.a q) _ e).1).0 in
           let n = ((ok.each i h).names (not_a r ordinary point (λ k. omega arith) o)).1 in

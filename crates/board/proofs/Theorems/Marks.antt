@@ -13,7 +13,7 @@ use lib.Seq.{get_or-set_same, get_or-set_other}
 use borrow.Author.Tests.{eqb-true, eqb-false, eq-eqb, not-true}
 use Rattle.points.specs.Sets.{member, members_of, with_of, count_of}
 use Rattle.points.proofs.Laws.{member_with, with_fits, with_old, with_count}
-use Rattle.plan.specs.Choice.{if◌then◌else◌}
+use Rattle.std.specs.Prelude.{if◌then◌else◌}
 use Rattle.plan.specs.Limits.{most_points}
 use Rattle.taking.specs.Steps.{set_all}
 use Rattle.board.specs.Boards.{is_done, minute}

@@ -12,7 +12,7 @@ use lib.ListN.{length, get_or}
 use borrow.Author.Tests.{ltb-true, ltb-false, leb-true, eqb-false, not-true, not-false}
 use Rattle.points.specs.Sets.{member, members_of, below_of, subset_of, count_of, from, every, first_of}
 use Rattle.points.proofs.Laws.{first_member}
-use Rattle.plan.specs.Choice.{if◌then◌else◌}
+use Rattle.std.specs.Prelude.{if◌then◌else◌}
 use Rattle.plan.specs.Limits.{most_points, farthest, record_bytes}
 use Rattle.plan.specs.APlan.{link, is, points, watched, link_to, blank, records_of}
 use Rattle.plan.specs.ReplyNumbers.{check_of}

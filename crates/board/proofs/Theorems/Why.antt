@@ -8,7 +8,7 @@ use native.Mathlib.Omega.{arith}
 use lib.Dec.{eqb, ltb, leb}
 use lib.ListN.{length, get_or}
 use borrow.Author.Tests.{eqb-true, eq-eqb, ne_eqb, not-true, not-false}
-use Rattle.plan.specs.Choice.{if◌then◌else◌}
+use Rattle.std.specs.Prelude.{if◌then◌else◌}
 use Rattle.plan.specs.APlan.{point, ordinary, wait, is, some, points, records_of, blank, gap_of, link_to}
 use Rattle.plan.specs.ReplyNumbers.{check_of}
 use Rattle.plan.specs.declared.Plan.{Plan}
@@ -104,7 +104,7 @@ module _ (p : Plan) (ok : (check_of p).number ≡ 0) (b : Board) where
       (not (eqb (event_point s) no_point || leb (low rs b (event_point s)) (event_minute s))) (some_open rs b && ltb (latest rs b) (event_minute s)) e
     where
       go : (f k w c r t l n o x y : Bool)
-          → ◌≡◌ {A = ℕ} (if f then 21 else if k then 22 else if w then 23 else if c then 24 else if r then 25 else if t then 26 else if l then 27 else if not (n || o) then 28 else if x then 29 else if y then 30 else 0) 28
+          → ◌≡◌ {A = ℕ} (if f then 21 else (if k then 22 else (if w then 23 else (if c then 24 else (if r then 25 else (if t then 26 else (if l then 27 else (if not (n || o) then 28 else (if x then 29 else (if y then 30 else 0)))))))))) 28
           → o ≡ false
       go true k w c r t l n o x y e = absurd (omega arith)
       go false true w c r t l n o x y e = absurd (omega arith)

@@ -30,7 +30,7 @@ pub fn verdict_file(file: &[u8], kept: &[u32; KEPT]) -> Verdict
 }
 
 // The calendar, at the front of the buffer.
-fn calendar_file(file: &[u8], kept: &[u32; KEPT], origin: Stamp, out: &mut [u8]) -> Calendar
+pub fn calendar_file(file: &[u8], kept: &[u32; KEPT], origin: Stamp, out: &mut [u8]) -> Calendar
     ensures reply { result ≡ calendar_file file.now kept.now origin out.old }
     ensures bytes { out.new ≡ calendar_left file.now kept.now origin out.old }
 {

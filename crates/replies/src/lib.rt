@@ -82,7 +82,7 @@ fn state_of(
 }
 
 // An outcome that carries nothing more.
-fn nothing_more(outcome: Outcome) -> Reply
+pub fn nothing_more(outcome: Outcome) -> Reply
     ensures { result ≡ bare outcome }
 {
     let shut = Place {
@@ -97,7 +97,7 @@ fn nothing_more(outcome: Outcome) -> Reply
 }
 
 // An outcome with its list.
-fn list(
+pub fn list(
     outcome: Outcome,
     board: Board,
     watches: u32,

@@ -1,7 +1,7 @@
 -- What is said of soundness and of an event taken is what it was before the crates `sounding` and `taking`: the texts as they
 -- were, each equal to what stands in specs/. Assumes nothing.
 use mathlib.Core.Path.{◌≡◌, refl, ap, ◌∙◌}
-use mathlib.Core.Bool.{Bool, not, ◌&&◌}
+use mathlib.Core.Bool.{not, ◌&&◌}
 use mathlib.Core.List.{List}
 use Prim.Native.Nat.{ℕ, ◌*◌, ◌^◌, ◌<◌}
 use lib.Dec.{eqb, leb}
@@ -10,7 +10,7 @@ use Rattle.points.specs.Sets.{member, members_of, below_of, subset_of, count_of,
 use Rattle.plan.specs.Limits.{most_points, farthest}
 use Rattle.links.specs.declared.Links.{Links}
 use Rattle.calls.specs.Calls.{numbered}
-use Rattle.running.specs.ByTable.{sound_at}
+pub use Rattle.running.specs.ByTable.{sound_at}
 use Rattle.events.specs.Fields.{event_point, event_set}
 use Rattle.events.specs.Inside.{event_in}
 use Rattle.windows.specs.Inside.{beside_from}
@@ -24,7 +24,6 @@ use Rattle.board.specs.Inside.{clock_at, after_event}
 use Rattle.board.specs.ByLinks.{sound_else, sound_by}
 use Rattle.board.specs.ByWindows.{next_by, event_by, marks_of, taken_by, SetFits}
 use Rattle.board.specs.declared.Board.{Board}
-use Rattle.board.specs.declared.Taken.{Taken}
 use Rattle.board.proofs.Marking.{marks_are}
 use Rattle.board.proofs.ByPlan.{choice}
 

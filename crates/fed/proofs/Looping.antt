@@ -93,10 +93,10 @@ reached : {full : Bool} {front₀ : List ℕ} {s : Stage} {front rows into out e
 reached (none o z) = record { bytes = []; stands = in_plan o (rw z runs.none) refl; left = refl }
 reached (turn {s' = s'} {chunk = chunk} {chunk₁} {chunk₂} {came} {at = at} {n} {at'} t r f c) =
     let h = reached t in
-    let u : s'.used ≤ n = omega (arith, feeds_within (take n chunk₁) (f.on refl), length-take-le n chunk₁ r.room) in
+    let u : s'.used ≤ n = omega (arith, feeds_within (take n chunk₁) f, length-take-le n chunk₁ r.room) in
     record {
       bytes = h.bytes ++ take s'.used (take n chunk₁);
-      stands = stands_fed (take n chunk₁) h.stands (f.on refl);
+      stands = stands_fed (take n chunk₁) h.stands f;
       left = carried_read h.bytes came chunk chunk₁ chunk₂ at n s'.used at' h.left r u c;
     }
 
@@ -140,7 +140,7 @@ pub loops_print : (full : Bool) (bytes text : List ℕ) → Loops full bytes tex
 loops_print full bytes text (over {chunk = chunk} {chunk₁} {at = at} room t r few f) =
     let h = reached t in
     let same : h.bytes ++ take at chunk₁ ≡ bytes = ap (λ (x : List ℕ). h.bytes ++ x) r.front ∙ sym h.left in
-    prints_is same refl (finished (take at chunk₁) room (omega (arith, length-take-le at chunk₁ r.room)) h.stands (f.last refl))
+    prints_is same refl (finished (take at chunk₁) room (omega (arith, length-take-le at chunk₁ r.room)) h.stands f)
 
 pub sheet_loops : SheetLoops
 sheet_loops bytes text h l = sheet_prints bytes text h (loops_print false bytes text l)

@@ -2,3 +2,4 @@
 pub mod Runs
 pub mod Whole
 pub mod Loops
+pub mod TurnLoops

@@ -1,11 +1,11 @@
--- A run of the machine as the one loop of `printing` makes it: a turn reads behind what was carried, hands what stands in the chunk to
--- `turn`, writes the front of the room of lines and carries what is left to the chunk's front. Each call is one of the functions' own contracts; what a
+-- A run of the machine as the one loop of `printing` makes it: a turn reads behind what was carried, feeds what stands in the chunk, writes
+-- the front of the room of lines and carries what is left to the chunk's front. Each call is one of the functions' own contracts; what a
 -- read brings is any bytes. Assumes nothing.
 use Rattle.std.specs.Prelude.{◌≡◌, Bool, true, false, List, [], ◌++◌, ℕ, ◌+◌, ◌-◌, ◌*◌, ◌^◌, ◌<◌, ◌≤◌, length, take, drop}
 use Rattle.plan.specs.Held.{All, IsByte}
 use Rattle.plan.specs.Limits.{most_records, record_bytes}
 use Rattle.printed.specs.Texts.{sheet_text, offers_text}
-use Rattle.machine.specs.Feeds.{Turned}
+use Rattle.machine.specs.Feeds.{Feeds, Finishes}
 use Rattle.machine.specs.declared.Stage.{Stage}
 
 -- what `read_on` leaves: the first `at` bytes of the chunk as they were, and n in all
@@ -25,15 +25,15 @@ pub data Turns (full : Bool) (front₀ : List ℕ) : Stage → List ℕ → List
   none : {s : Stage} {rows into out ends kept chunk : List ℕ} → s.begun ≡ false → s.part ≡ 0 → Turns full front₀ s front₀ rows into out ends kept chunk 0 [] []
   turn : {s s' : Stage} {front rows into out ends kept front' rows' into' out' ends' kept' chunk chunk₁ chunk₂ came text lines₀ lines : List ℕ} {at n at' : ℕ}
       → Turns full front₀ s front rows into out ends kept chunk at came text → ReadOn chunk at chunk₁ n
-      → Turned full false s front rows into out ends kept (take n chunk₁) lines₀ front' rows' into' out' ends' kept' lines s' → CarriedOn chunk₁ s'.used n chunk₂ at'
+      → Feeds full s front rows into out ends kept (take n chunk₁) lines₀ front' rows' into' out' ends' kept' lines s' → CarriedOn chunk₁ s'.used n chunk₂ at'
       → Turns full front₀ s' front' rows' into' out' ends' kept' chunk₂ at' (came ++ take (n - at) (drop at chunk₁)) (text ++ take s'.end lines)
 
--- the whole loop: where less than a record stands in the chunk and a read brings nothing, the input is over, and so is the loop after this turn
+-- the whole loop: where less than a record stands in the chunk and a read brings nothing, the machine is finished
 pub data Loops (full : Bool) : List ℕ → List ℕ → Type 0 where
-  over : {front₀ : List ℕ} {s s' : Stage} {front rows into out ends kept front' rows' into' out' ends' kept' chunk chunk₁ came text lines₀ lines : List ℕ} {at : ℕ} → record_bytes * (most_records + 2) ≤ length front₀
+  over : {front₀ : List ℕ} {s : Stage} {front rows into out ends kept chunk chunk₁ came text lines₀ lines : List ℕ} {at end : ℕ} → record_bytes * (most_records + 2) ≤ length front₀
       → Turns full front₀ s front rows into out ends kept chunk at came text → ReadOn chunk at chunk₁ at → at < record_bytes
-      → Turned full true s front rows into out ends kept (take at chunk₁) lines₀ front' rows' into' out' ends' kept' lines s'
-      → Loops full came (text ++ take s'.end lines)
+      → Finishes full s front rows into out ends kept (take at chunk₁) lines₀ lines end
+      → Loops full came (text ++ take end lines)
 
 -- However the input comes in pieces, what the loop writes, one piece after the other, is the definition's text; of an input of 2^64 bytes or
 -- more nothing is said.

@@ -9,6 +9,6 @@ mod begun;
 mod ending;
 mod front;
 
-pub use begun::{Begun, begin_read};
+pub use begun::{Begun, begin_read, put_end};
 pub use ending::{keep_part, put_last};
-pub use front::Part;
+pub use front::{Part, keep_plan, keep_rest};

@@ -11,12 +11,12 @@ use Rattle.stream.specs.Buffers.{appended}
 use Rattle.stream.specs.Sheets.{read_front}
 use Rattle.saying.specs.Makes.{EventsPut}
 use Rattle.saying.specs.declared.putting.Said.{Said}
-use Rattle.feeding.specs.Parts.{PlanKept, PlanBegun, ReadBegun}
+use Rattle.feeding.specs.Parts.{PlanKept, PlanBegun, ReadBegun, LastPut}
 use Rattle.feeding.specs.Ending.{PartKept, OverPut}
 use Rattle.feeding.proofs.Starting.{last_of}
 use Rattle.feeding.specs.declared.front.Part.{Part}
 use Rattle.feeding.specs.declared.begun.Begun.{Begun}
-use Rattle.machine.specs.Feeds.{Feeds, plan_on, plan_read, events, refused, Finishes, rest_refused, rest_read, events_over_lem, refused_over, Turned}
+use Rattle.machine.specs.Feeds.{at_first, Feeds, plan_on, plan_read, events, refused, Finishes, rest_refused, rest_read, events_over_lem, refused_over, Turned}
 use Rattle.machine.specs.declared.Stage.{Stage}
 
 -- no more of a piece is used than there is
@@ -95,3 +95,18 @@ module _ (full over : Bool) (s : Stage) (front rows into out ends kept₀ piece 
   turned_events f z {said = said} x r e =
       let here : (n : ℕ) → Stage = λ n. record { begun = true; number = n; part = s.part; events = said.events; links = s.links; ponds = s.ponds; used = said.used; end = said.end } in
       rw (e ∙ ap here z) (record { on = λ h. events o z x; last = λ h. clash (sym h ∙ f); used = λ h. clash (sym h ∙ f) })
+
+-- the input ends in the plan part
+module _ (full : Bool) (s : Stage) (front₀ rows₀ into₀ out₀ ends₀ kept₀ rest lines₀ : List ℕ) (o : s.begun ≡ false) (n : ℕ) (front : List ℕ)
+    (e : n ≡ (s.part + length rest) % 2 ^ 64) (f : front ≡ appended front₀ s.part rest) where
+  pub over_refused : {rows into out ends kept lines : List ℕ} {b : Begun} → PlanBegun full n front rows₀ into₀ out₀ ends₀ kept₀ lines₀ rows into out ends kept lines b → (b.number ≡ 0 → ⊥)
+      → Finishes full s front₀ rows₀ into₀ out₀ ends₀ kept₀ rest lines₀ lines b.end
+  over_refused g bad = rest_refused o (rw (e, f) at g) bad
+
+  pub over_read : {rows into out ends kept lines₁ lines : List ℕ} {b : Begun} {end : ℕ} → PlanBegun full n front rows₀ into₀ out₀ ends₀ kept₀ lines₀ rows into out ends kept lines₁ b → b.number ≡ 0
+      → LastPut n front kept 0 lines₁ b.end lines end → Finishes full s front₀ rows₀ into₀ out₀ ends₀ kept₀ rest lines₀ lines end
+  over_read g z l = rest_read o (rw (e, f) at g) z (rw (e, f) at l)
+
+-- before any input no plan part is over, and none of it has come
+pub first_begun : (r : Stage) → r ≡ at_first → (r.begun ≡ false) × (r.part ≡ 0)
+first_begun r e = (ap (λ (s : Stage). s.begun) e, ap (λ (s : Stage). s.part) e)

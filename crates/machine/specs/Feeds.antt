@@ -1,8 +1,6 @@
 -- What the machine does with a piece of the input, and at the input's end, whatever the rooms that are lent hold. Assumes nothing.
 use Rattle.std.specs.Prelude.{◌≡◌, Bool, true, false, List, ℕ, ◌+◌, ◌%◌, ◌^◌, length, replicate}
 use Rattle.plan.specs.Limits.{most_points}
-use Rattle.links.specs.declared.Links.{Links}
-use Rattle.links.specs.declared.End.{End}
 use Rattle.stream.specs.Buffers.{appended}
 use Rattle.saying.specs.Makes.{EventsPut}
 use Rattle.saying.specs.declared.putting.Said.{Said}

@@ -1,17 +1,25 @@
 // The machine of the printing programs: it is begun, and goes on by turns, each with a piece of the input in order, the last with its end; after
 // each turn the lines that were made stand at the front of a lent room. Where it stands, in the plan part, at the events or behind a refused plan,
 // is one struct by value, `Stage`; so is what it used of the piece. Here are its beginning and its turns in the plan part; `turns` has the whole turn.
-// Every function here has an exact contract, but for where the machine stands behind the end, which nothing asks; `plan_turn` has an inner room's
-// `requires`: that there is room for the lines.
+// Or it is fed with pieces of the input, `feed`, and finished, `finish`: the two cases of a turn, each a function by itself.
+// Every function here has an exact contract, but for where the machine stands behind the end, which nothing asks; `plan_turn`, `feed`, `finish` and
+// `carry` have an inner room's `requires`: that there is room for the lines, and that places are within the chunk.
 
 #![tactic(auto)]
 
 ghost use Rattle.std.specs.Prelude.{◌≡◌, true};
 ghost use Rattle.machine.specs.Feeds.{at_first};
 
+mod carried;
+mod ended;
+mod fed_plan;
+mod pieces;
 mod plan_part;
 
+pub use carried::carry;
+pub use ended::finish;
 use links::{End, Links};
+pub use pieces::feed;
 use places::ROOM;
 pub use plan_part::plan_turn;
 

@@ -3,6 +3,9 @@
 // it here. Here is what reads and writes, which no contract can say: one loop of a read, a turn and a write. After each read all whole
 // records that have come are answered, and their lines go out before the next read, so that a foreman who types an event has his answer;
 // memory does not grow with the input.
+
+#![tactic(auto)]
+
 use chunks::{carry, read_on, sent};
 use engine::{KEPT, LIST};
 use plan::RECORD_BYTES;

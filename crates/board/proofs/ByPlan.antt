@@ -35,7 +35,7 @@ use Rattle.board.proofs.Taking.{number_here, record_here}
 use Rattle.board.proofs.Theorems.Soundness.{HeldBoard, few_calls}
 
 -- what is answered of a choice
-choice : (k : Bool) (x y : Step) → taken_of (if k then x else y) ≡ (if k then taken_of x else taken_of y)
+pub choice : (k : Bool) (x y : Step) → taken_of (if k then x else y) ≡ (if k then taken_of x else taken_of y)
 choice true x y = refl
 choice false x y = refl
 

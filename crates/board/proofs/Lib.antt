@@ -7,3 +7,4 @@ pub mod Replying
 pub mod Taking
 pub mod Streaming
 pub mod ByPlan
+pub mod Landed

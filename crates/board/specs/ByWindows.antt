@@ -1,14 +1,20 @@
 -- What the links l and the windows w say of an event s on a board b. No reader of the rules needs this page. Assumes nothing.
-use Rattle.std.specs.Prelude.{List, ℕ}
+use Rattle.std.specs.Prelude.{List, ℕ, ◌+◌, ◌-◌, min}
 use Rattle.links.specs.declared.Links.{Links}
+use Rattle.lowhigh.specs.Rules.{never}
 use Rattle.windows.specs.declared.Windows.{Windows}
 use Rattle.planless.specs.ByWindows.{number_by}
 use Rattle.taking.specs.Steps as taking
 use Rattle.taking.specs.declared.Marks.{Marks}
 use Rattle.taking.specs.declared.Step.{Step}
+use Rattle.board.specs.Calls.{last_call}
 use Rattle.board.specs.Events.{taken}
 use Rattle.board.specs.declared.Board.{Board}
 use Rattle.board.specs.declared.Taken.{Taken}
+
+-- the number of the next event, as far as there is one
+abbrev pub next_by : Board → ℕ
+next_by b = min (last_call b) (never - 1) + 1
 
 -- the number of the event s
 abbrev pub event_by : Links → Board → Windows → List ℕ → ℕ

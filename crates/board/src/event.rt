@@ -3,18 +3,41 @@ ghost use Rattle.std.specs.Prelude.{◌≡◌, true};
 ghost use Rattle.plan.specs.APlan.{records_of};
 ghost use Rattle.board.specs.Boards.{sound};
 ghost use Rattle.board.specs.Events.{taken, take_of};
-ghost use Rattle.board.specs.Inside.{taken_next};
+ghost use Rattle.board.specs.Inside.{after_event, taken_next};
 ghost use Rattle.board.specs.ByWindows.{taken_by, SetFits};
 ghost use Rattle.board.specs.InsideReplies.{Ready};
 
 use crate::sound::is_sound_by;
 use crate::{Board, Taken, UNSOUND};
+use events::Event;
 use links::{Links, links_by};
 use plan::{ACCEPTED, Plan, check};
 use taking::{Marks, step_from};
 use windows::{Windows, windows_of};
 
-pub(crate) fn answer(number: u32, place: u32, board: Board) -> Taken
+// The board after an event of number n.
+pub fn after(board: Board, e: Event, n: u32) -> Board
+    ensures { result ≡ after_event board e n }
+{
+    let minutes = board.minutes;
+    let calls = board.calls;
+    let marks = Marks {
+        done: board.done,
+        minutes: minutes,
+        calls: calls,
+    };
+    let next = taking::after(marks, e, n);
+    let minutes_then = next.minutes;
+    let calls_then = next.calls;
+    Board {
+        clock: e.minute,
+        done: next.done,
+        minutes: minutes_then,
+        calls: calls_then,
+    }
+}
+
+pub fn answer(number: u32, place: u32, board: Board) -> Taken
     ensures { result ≡ taken number place board }
 {
     Taken {
@@ -26,7 +49,7 @@ pub(crate) fn answer(number: u32, place: u32, board: Board) -> Taken
 
 // One event, from the plan's links and the windows of the board before it: the next board, or a number with the record beside it
 // and the same board.
-fn take_from(links: Links, board: Board, w: Windows, event: &[u8]) -> Taken
+pub fn take_from(links: Links, board: Board, w: Windows, event: &[u8]) -> Taken
     ensures taken { result ≡ taken_by links board w event.now }
     ensures set { SetFits links board w event.now }
 {

@@ -1,6 +1,6 @@
 // The board: soundness and events. Document 01, "Board, windows, replies" and "Events"; specs/ states them in that order.
 // `fresh`, `minute_of`, `is_sound`, `is_finished`, `take` and `take_all` take any plan, any board and any bytes and answer;
-// `is_sound_by` and `is_finished_by` serve the crates `replies` and `verdict`.
+// `is_sound_by` and `is_finished_by` serve the crates `replies` and `verdict`; `take_from`, `after` and `answer` need no plan.
 
 #![tactic(auto)]
 
@@ -12,6 +12,7 @@ mod sound;
 mod standing;
 mod stream;
 
+pub use event::{after, answer, take_from};
 pub use links::{BEFORE_CLOCK, NOT_IN_TIME, NOT_RUNNING, RUN_OUT};
 pub use sound::{is_sound, is_sound_by, minute_of};
 pub use standing::{is_finished, is_finished_by};

@@ -77,7 +77,7 @@ fn mark(marks: Marks, p: u8, t: u32, n: u32) -> Marks
 }
 
 // The marks after an event of number n.
-fn after(marks: Marks, e: Event, n: u32) -> Marks
+pub fn after(marks: Marks, e: Event, n: u32) -> Marks
     ensures { result ≡ marked_by e.minute n (points_of e) marks }
 {
     let next = mark_set(marks, e.set, e.minute, n);

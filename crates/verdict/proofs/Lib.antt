@@ -1,3 +1,4 @@
 -- The modules of proofs that belong to no one function. Other crates cite the ones that are `pub`.
 pub mod Broken
 pub mod Numbers
+pub mod Landed

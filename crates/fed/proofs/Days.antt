@@ -1,17 +1,15 @@
 -- Events in pieces: what was written is what is printed of each event, and the engine's rooms agree with the plain engine's board. Assumes nothing.
 use mathlib.Core.Path.{◌≡◌, refl, sym, ap, ◌∙◌}
-use mathlib.Core.Bool.{Bool, true, false}
-use mathlib.Core.List.{List, [], ◌∷◌, ◌++◌, append_assoc, append-nil}
-use Prim.Native.Nat.{ℕ, zero, suc, ◌+◌, ◌*◌, ◌/◌, ◌%◌, ◌^◌, ◌≤◌, ◌<◌}
+use mathlib.Core.Bool.{Bool, false}
+use mathlib.Core.List.{List, [], ◌∷◌, ◌++◌, append-nil}
+use Prim.Native.Nat.{ℕ, suc, ◌+◌, ◌*◌, ◌/◌, ◌%◌, ◌^◌, ◌<◌}
 use native.Mathlib.Omega.{arith}
-use lib.ListN.{length, take, drop, length-append}
+use lib.ListN.{length, take, length-append}
 use lib.Seq.{length-take-le}
 use Rattle.plan.specs.Limits.{record_bytes}
 use Rattle.plan.specs.declared.Plan.{Plan}
-use Rattle.plan.specs.declared.Refusal.{Refusal}
 use Rattle.points.specs.Sets.{count_of}
 use Rattle.links.specs.declared.Links.{Links}
-use Rattle.kept.specs.Rooms.{clock_at, done_at}
 use Rattle.board.specs.Boards.{fresh}
 use Rattle.board.specs.Events.{take_of}
 use Rattle.board.specs.Streams.{events_in, board_after_all}
@@ -21,13 +19,11 @@ use Rattle.engine.proofs.Agreeing.{take_agrees}
 use Rattle.lines.specs.Inside.{text_in}
 use Rattle.lines.specs.declared.Line.{Line}
 use Rattle.text.specs.Lines.{numbers_line, event_line}
-use Rattle.places.specs.Places.{kept_line}
 use Rattle.printed.specs.Texts.{whole_in, texts_of, event_lines}
 use Rattle.printed.proofs.Records.{length_events}
 use Rattle.saying.specs.Makes.{Made, EventMade, EventsMade, EventsPut}
 use Rattle.saying.specs.Makes as makes
-use Rattle.saying.specs.declared.putting.Said.{Said}
-use Rattle.saying.proofs.Listing.{texts_more, one_text}
+use Rattle.saying.proofs.Listing.{texts_more}
 use Rattle.fed.specs.Runs.{EventPieces}
 use Rattle.fed.specs.Runs as runs
 use Rattle.fed.proofs.Joining.{whole_behind}

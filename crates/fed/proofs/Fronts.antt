@@ -4,15 +4,12 @@ use mathlib.Core.Bool.{Bool, true, false}
 use mathlib.Core.List.{List, [], ◌∷◌, ◌++◌, append_assoc, append-nil}
 use Prim.Native.Nat.{ℕ, zero, suc, ◌+◌, ◌*◌, ◌/◌, ◌%◌, ◌^◌, ◌≤◌, ◌<◌}
 use native.Mathlib.Omega.{arith}
-use lib.Dec.{leb, ltb}
 use lib.ListN.{length, take, drop, length-append, length-drop, drop_of_length-le}
-use lib.Seq.{paste, take-paste, length-paste, take-length, take_at, drop_at, take-add, length-take-le, take-append-le, drop-append-le, take_all, drop-append-add}
+use lib.Seq.{take-paste, take-length, take_at, drop_at, take-add, length-take-le}
 use borrow.Author.Tests.{le-leb, lt-ltb, le-ltb}
 use Rattle.numbers.specs.Fits.{All}
-use Rattle.std.specs.Prelude.{if◌then◌else◌}
 use Rattle.plan.specs.Limits.{most_records, record_bytes}
 use Rattle.plan.specs.ReplyNumbers.{read_of}
-use Rattle.plan.specs.declared.Reading.{Reading}
 use Rattle.board.specs.Streams.{events_in}
 use Rattle.stream.specs.Buffers.{appended}
 use Rattle.stream.specs.Sheets.{is_mark, read_front}
@@ -24,7 +21,7 @@ use Rattle.feeding.specs.Parts as parts
 use Rattle.feeding.specs.declared.front.Part.{Part}
 use Rattle.feeding.proofs.Fronting.{length_appended}
 use Rattle.fed.specs.Runs.{PlanPieces, none, piece, PlanPart, to_mark, to_end}
-use Rattle.fed.proofs.Joining.{events_behind, events_taken, whole_behind, whole_rest, until_behind, joined, joined_more, joined_events}
+use Rattle.fed.proofs.Joining.{events_behind, whole_behind, whole_rest, until_behind, joined, joined_more, joined_events}
 
 -- a record of sixteen bytes
 abbrev Long : List ℕ → Type 0

@@ -2,18 +2,15 @@
 use mathlib.Core.Path.{◌≡◌, refl, sym, ap, ◌∙◌}
 use mathlib.Core.Bool.{Bool, true, false}
 use mathlib.Core.List.{List, [], ◌∷◌, ◌++◌, append_assoc, append-nil}
-use Prim.Native.Nat.{ℕ, zero, suc, ◌+◌, ◌-◌, ◌*◌, ◌/◌, ◌%◌, ◌≤◌, ◌<◌}
+use Prim.Native.Nat.{ℕ, zero, suc, ◌+◌, ◌*◌, ◌/◌, ◌≤◌, ◌<◌}
 use native.Mathlib.Omega.{arith}
-use lib.Dec.{ltb}
-use lib.ListN.{length, take, drop, length-append, length-take, length-drop, take-append-drop, drop_of_length-le}
-use lib.Seq.{take-append-le, drop-append-le, take_at, drop_at, take_all, take-length, take-add, length-take-le, drop-append-add, drop-length}
-use borrow.Author.Tests.{lt-ltb, le-ltb}
+use lib.ListN.{length, take, drop, length-append, length-drop, take-append-drop}
+use lib.Seq.{take-append-le, drop-append-le, take-add, length-take-le}
 use Rattle.std.specs.Prelude.{if◌then◌else◌}
 use Rattle.plan.specs.Limits.{record_bytes}
 use Rattle.board.specs.Streams.{events_in}
 use Rattle.stream.specs.Sheets.{is_mark}
-use Rattle.printed.specs.Texts.{whole_in, until_mark, plan_part, event_part}
-use Rattle.printed.proofs.Records.{length_events}
+use Rattle.printed.specs.Texts.{whole_in, until_mark}
 
 -- n records of a front, and m of what comes behind it
 pub events_behind : (n m : ℕ) (s t : List ℕ) → length s ≡ record_bytes * n → events_in (n + m) (s ++ t) ≡ events_in n s ++ events_in m t

@@ -2,12 +2,12 @@
 use mathlib.Core.Path.{◌≡◌, refl, sym, ap, ◌∙◌}
 use mathlib.Core.Bool.{Bool, true, false, not}
 use mathlib.Core.Logic.{◌⊎◌, inl, inr}
-use mathlib.Core.List.{List, [], ◌∷◌, ◌++◌, map}
+use mathlib.Core.List.{List, [], ◌∷◌, map}
 use Prim.Native.Nat.{ℕ, zero, suc, ◌+◌, ◌≤◌, ◌<◌, min}
 use native.Mathlib.Omega.{arith}
 use borrow.Author.Tests.{eq-eqb}
-use lib.Dec.{eqb, ltb}
-use lib.ListN.{length, get_or, take, length-take}
+use lib.Dec.{ltb}
+use lib.ListN.{length, get_or, length-take}
 use Rattle.points.specs.Sets.{from}
 use Rattle.numbers.specs.Fits.{All}
 use Rattle.records.specs.Held.{Held}
@@ -20,10 +20,8 @@ use Rattle.lowhigh.specs.Rules.{number_at, place_from}
 use Rattle.plan.specs.Held.{HeldPlan}
 use Rattle.plan.specs.ReplyNumbers.{check_of}
 use Rattle.plan.specs.declared.Plan.{Plan}
-use Rattle.plan.specs.declared.Found.{Found}
-use Rattle.plan.specs.declared.Found.TheVariants.{At, Nothing}
+use Rattle.plan.specs.declared.Found.TheVariants.{At}
 use Rattle.plan.proofs.Accepted.{accepted_plan}
-use Rattle.rows.specs.Layout.{LaidOut}
 use Rattle.links.specs.declared.Links.{Links}
 use Rattle.board.specs.Boards.{is_done, minute}
 use Rattle.board.specs.Windows.{is_open, holder, low, shuts}
@@ -43,10 +41,10 @@ use Rattle.lines.specs.declared.Line.{Line}
 use Rattle.lines.specs.Text.{said}
 use Rattle.lines.specs.declared.Piece.TheVariants.{Name, Number}
 use Rattle.text.specs.Words.{point_word}
-use Rattle.text.specs.Lines.{board_line, point_line, record_at, record_pieces, state_pieces}
+use Rattle.text.specs.Lines.{board_line, record_pieces, state_pieces}
 use Rattle.places.specs.Places.{ForEach, pond_at, named_by, nowhere, reason_at, line_at, has_list}
 use Rattle.places.proofs.Reasons.{shows_same}
-use Rattle.printed.specs.Texts.{place_line, reply_lines, board_lines, texts_of}
+use Rattle.printed.specs.Texts.{place_line, board_lines, texts_of}
 use Rattle.saying.specs.Makes.{lines_by, BoardMade}
 
 -- no record, or one of the plan's

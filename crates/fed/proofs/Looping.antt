@@ -2,7 +2,7 @@
 use mathlib.Core.Path.{◌≡◌, refl, sym, ap, ◌∙◌, subst}
 use mathlib.Core.Bool.{Bool, true, false}
 use mathlib.Core.List.{List, [], ◌++◌, append_assoc, append-nil}
-use Prim.Native.Nat.{ℕ, zero, suc, ◌+◌, ◌-◌, ◌*◌, ◌%◌, ◌^◌, ◌<◌, ◌≤◌}
+use Prim.Native.Nat.{ℕ, zero, suc, ◌+◌, ◌-◌, ◌*◌, ◌<◌, ◌≤◌}
 use native.Mathlib.Omega.{arith}
 use lib.ListN.{length, take, drop}
 use lib.Seq.{take-add, take-take, take-length, length-take-le}
@@ -11,7 +11,7 @@ use Rattle.board.proofs.Theorems.Each.{clash}
 use Rattle.lines.specs.Inside.{text_in}
 use Rattle.text.specs.Lines.{end_line}
 use Rattle.stream.specs.Sheets.{read_front}
-use Rattle.saying.specs.Makes.{Made, EventsPut}
+use Rattle.saying.specs.Makes.{Made}
 use Rattle.feeding.specs.Parts.{PlanBegun, tail_text, LastPut}
 use Rattle.feeding.specs.declared.begun.Begun.{Begun}
 use Rattle.machine.specs.Feeds.{Feeds, plan_on, plan_read, events, refused, Finishes, rest_refused, rest_read, events_over_lem, refused_over}

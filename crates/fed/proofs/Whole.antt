@@ -1,8 +1,8 @@
 -- However the input is cut into pieces, what is written is the definition's text. Assumes nothing.
 use mathlib.Core.Path.{◌≡◌, refl, sym, ap, ◌∙◌}
 use mathlib.Core.Bool.{Bool, true, false, not}
-use mathlib.Core.List.{List, [], ◌∷◌, ◌++◌, append_assoc, append-nil}
-use Prim.Native.Nat.{ℕ, ◌+◌, ◌*◌, ◌/◌, ◌%◌, ◌^◌, ◌≤◌, ◌<◌}
+use mathlib.Core.List.{List, [], ◌∷◌, ◌++◌, append-nil}
+use Prim.Native.Nat.{ℕ, ◌+◌, ◌*◌, ◌%◌, ◌^◌, ◌≤◌, ◌<◌}
 use native.Mathlib.Omega.{arith}
 use lib.Dec.{eqb}
 use lib.ListN.{length, take, length-append}
@@ -17,18 +17,17 @@ use Rattle.plan.proofs.RoundTrip.{read_is_checked}
 use Rattle.links.specs.declared.Links.{Links}
 use Rattle.board.specs.Boards.{fresh}
 use Rattle.board.specs.Streams.{board_after_all}
-use Rattle.board.specs.declared.Board.{Board}
 use Rattle.engine.specs.Agreement.{Agrees}
 use Rattle.engine.proofs.Agreeing.{begins_agrees, board_agrees}
 use Rattle.lines.specs.Inside.{text_in}
 use Rattle.lines.specs.declared.Line.{Line}
 use Rattle.text.specs.Lines.{plan_line, tail_line, end_line}
 use Rattle.stream.specs.Sheets.{read_front}
-use Rattle.printed.specs.Texts.{whole_in, unfinished, plan_part, event_part, texts_of, event_lines, end_lines, sheet_of, read_lines, sheet_text}
+use Rattle.printed.specs.Texts.{whole_in, plan_part, event_part, texts_of, event_lines, end_lines, sheet_of, read_lines, sheet_text}
 use Rattle.saying.proofs.Listing.{texts_more, one_text}
 use Rattle.feeding.specs.Parts.{PlanBegun, tail_text, LastPut}
 use Rattle.feeding.specs.declared.begun.Begun.{Begun}
-use Rattle.fed.specs.Runs.{Prints, refused, read, PlanPart, EventPieces}
+use Rattle.fed.specs.Runs.{refused, read, PlanPart, EventPieces}
 use Rattle.fed.specs.Whole.{SheetPrints}
 use Rattle.fed.proofs.Joining.{whole_rest}
 use Rattle.fed.proofs.Fronts.{part_reads}

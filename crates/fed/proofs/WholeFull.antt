@@ -1,8 +1,8 @@
 -- However the input is cut into pieces, what the program that prints every reply writes is the definition's text. Assumes nothing.
 use mathlib.Core.Path.{◌≡◌, refl, sym, ap, ◌∙◌}
 use mathlib.Core.Bool.{Bool, true, false}
-use mathlib.Core.List.{List, [], ◌∷◌, ◌++◌, append_assoc}
-use Prim.Native.Nat.{ℕ, suc, ◌+◌, ◌*◌, ◌^◌, ◌≤◌, ◌<◌}
+use mathlib.Core.List.{List, [], ◌++◌, append_assoc}
+use Prim.Native.Nat.{ℕ, ◌+◌, ◌*◌, ◌^◌, ◌≤◌, ◌<◌}
 use native.Mathlib.Omega.{arith}
 use lib.Dec.{ltb}
 use lib.ListN.{length, take, length-append}
@@ -11,21 +11,18 @@ use Rattle.std.specs.Prelude.{if◌then◌else◌}
 use Rattle.plan.specs.Limits.{most_records, record_bytes}
 use Rattle.plan.specs.Held.{All, IsByte, HeldPlan}
 use Rattle.plan.specs.ReplyNumbers.{read_of}
-use Rattle.plan.specs.declared.Plan.{Plan}
 use Rattle.plan.specs.declared.Reading.{Reading}
 use Rattle.plan.proofs.Holding.{read_held}
 use Rattle.board.specs.Boards.{fresh}
-use Rattle.board.specs.Streams.{board_after_all}
 use Rattle.vee.specs.TestOf.{test_of}
 use Rattle.lines.specs.Inside.{text_in}
-use Rattle.lines.specs.declared.Line.{Line}
 use Rattle.text.specs.Lines.{test_line}
 use Rattle.stream.specs.Sheets.{read_front}
 use Rattle.printed.specs.Texts.{whole_in, until_mark, plan_part, event_part, texts_of, board_lines, answer_lines, end_lines, offers_of, read_lines, offers_text}
 use Rattle.saying.proofs.Listing.{texts_more}
 use Rattle.feeding.specs.Parts.{PlanBegun, LastPut}
 use Rattle.feeding.specs.declared.begun.Begun.{Begun}
-use Rattle.fed.specs.Runs.{Prints, refused, read, PlanPart, EventPieces}
+use Rattle.fed.specs.Runs.{refused, read, PlanPart, EventPieces}
 use Rattle.fed.specs.Whole.{OffersPrints}
 use Rattle.fed.proofs.Joining.{whole_rest}
 use Rattle.fed.proofs.Fronts.{part_reads}

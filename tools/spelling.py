@@ -141,11 +141,20 @@ def main(argv):
         functions.update(re.findall(r"\bfn (\w+)", read(f)))
     if "--docs" in argv:
         to = json.loads(read(TABLE))
+        own, _ = own_names()
+
+        def word(w):
+            n = w.group(0)
+            # some words were turned by the kit's script already
+            if not turned(n):
+                return n
+            return to.get(n) or (snake(n) if turned(n) and snake(n) in own and n not in own else n)
+
         for f in ["README.md"] + glob.glob("docs/*.md") + glob.glob("docs/landings/*.md") + glob.glob("*/README.md"):
             if f in ("docs/PORT.md",):
                 continue
             t = read(f)
-            new = re.sub(r"`([^`\n]+)`", lambda m: "`" + WORD.sub(lambda w: to.get(w.group(0), w.group(0)), m.group(1)) + "`", t)
+            new = re.sub(r"`([^`\n]+)`", lambda m: "`" + WORD.sub(word, m.group(1)) + "`", t)
             if new != t:
                 with open(f, "w", encoding="utf-8") as it:
                     it.write(new)

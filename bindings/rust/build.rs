@@ -1,4 +1,4 @@
-//! Finds the archive: in the folder that PONDS_LIB names, else where `rt staticlib ponds` writes it.
+//! Finds the archive: in the folder that PONDS_LIB names, else where `bin/archive` writes it.
 use std::env;
 use std::path::PathBuf;
 
@@ -16,7 +16,7 @@ fn main() {
     }
     if !archive.exists() {
         let archive = archive.display();
-        panic!("there is no {archive}: `rt staticlib ponds` writes it, and PONDS_LIB names another folder");
+        panic!("there is no {archive}: `bin/archive` writes it, and PONDS_LIB names another folder");
     }
     println!("cargo:rerun-if-changed={}", archive.display());
     println!("cargo:rustc-link-search=native={}", folder.display());

@@ -1,4 +1,4 @@
-//! The proved dispatcher as a library for Rust: safe types over the archive that `rt staticlib ponds` writes. Nothing is
+//! The proved dispatcher as a library for Rust: safe types over the archive that `bin/archive` writes. Nothing is
 //! allocated and nothing is global; what a call needs it is lent.
 //!
 //! A [`Plan`] is a plan file that has been accepted. It is tested, and its days are played in [`Rooms`] that the caller holds:

@@ -15,44 +15,26 @@ pub struct Gap {
     pub down: u32,
 }
 
-// A byte as a number.
-pub fn wide(x: u8) -> u32
-    ensures { (result ≡ x) × (result ≤ 255) }
-{
-    x as u32
-}
-
 // The number that four bytes stand for.
 pub fn word_at(bytes: &[u8], at: usize) -> u32
     requires { at + 4 ≤ length bytes.now }
     ensures { result ≡ word_at bytes.now at }
 {
-    wide(bytes[at])
-        + 256 * (wide(bytes[at + 1]) + 256 * (wide(bytes[at + 2]) + 256 * wide(bytes[at + 3])))
+    u32::from_le_bytes([bytes[at], bytes[at + 1], bytes[at + 2], bytes[at + 3]])
 }
 
 // Thirty-two bits, read as signed.
 pub fn signed(x: u32) -> i32
     ensures { result ≡ signed_of x }
 {
-    if x < 2147483648 {
-        x as i32
-    } else {
-        let m = 4294967295 - x;
-        -1 - (m as i32)
-    }
+    x.cast_signed()
 }
 
 // The thirty-two bits of a signed number.
 pub fn bits(x: i32) -> u32
     ensures { result ≡ bits_of x }
 {
-    if x < 0 {
-        let m = -1 - x;
-        4294967295 - (m as u32)
-    } else {
-        x as u32
-    }
+    x.cast_unsigned()
 }
 
 pub fn at_most(x: i32, y: i32) -> bool
@@ -77,13 +59,10 @@ pub fn is_nought(x: i32) -> bool
 pub fn split(d: i32) -> Gap
     ensures { result ≡ gap_of d }
 {
-    let b = bits(d);
-    if b < 2147483648 {
-        Gap { up: b, down: 0 }
+    let size = d.unsigned_abs();
+    if d < 0 {
+        Gap { up: 0, down: size }
     } else {
-        Gap {
-            up: 0,
-            down: 4294967295 - b + 1,
-        }
+        Gap { up: size, down: 0 }
     }
 }

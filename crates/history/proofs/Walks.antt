@@ -1,5 +1,4 @@
--- What one turn does for a test of every point, of every record and of every member of a set, and for the largest minute
--- of some points. Assumes nothing.
+-- What one turn does for a test of every point and of every record, and for the largest minute of some points. Assumes nothing.
 use mathlib.Core.Path.{◌≡◌, refl}
 use mathlib.Core.Bool.{Bool, true, false, not, ◌&&◌, ◌||◌}
 use mathlib.Core.List.{List, [], ◌∷◌}
@@ -8,8 +7,7 @@ use native.Mathlib.Omega.{arith}
 use native.Mathlib.Numerals.{add-one}
 use lib.ListN.{length, drop, get_or, drop_of_length-le}
 use lib.Seq.{drop-cons}
-use Rattle.points.specs.Sets.{members_of, from, every}
-use Rattle.points.proofs.Laws.{Turn, members_empty}
+use Rattle.points.specs.Sets.{from, every}
 use Rattle.plan.specs.Limits.{most_records}
 use Rattle.plan.specs.APlan.{link, is, some, blank, records_of}
 use Rattle.plan.proofs.Records.{next_record, last_record}
@@ -83,26 +81,14 @@ none_so so (r ∷ rs) = rw (none_so so rs) (go (so r))
     go true = refl
     go false = refl
 
--- the members of a set
-module _ (test : ℕ → Bool) (s p rest : ℕ) (t : Turn s p rest) where
-  pub members_fails : test p ≡ false → false ≡ every test (members_of s)
-  unfolding every
-  members_fails e = rw (t.members, e)
-
-  pub members_turn : test p ≡ true → every test (members_of s) ≡ every test (members_of rest)
-  unfolding every
-  members_turn e = rw (t.members, e)
-
-pub members_end : (test : ℕ → Bool) → true ≡ every test (members_of 0)
-unfolding every
-members_end test = rw members_empty
-
 -- the largest minute
-module _ (minutes : List ℕ) where
-  pub largest_turn : (s p rest : ℕ) → Turn s p rest → (n : ℕ) → max n (largest minutes (members_of s)) ≡ max (max n (minute_in minutes p)) (largest minutes (members_of rest))
+module _ (minutes : List ℕ) (n : ℕ) {left : List ℕ} where
+  -- with the next of the points that are left
+  pub largest_more : {p : ℕ} {rest : List ℕ} → left ≡ p ∷ rest → max n (largest minutes left) ≡ max (max n (minute_in minutes p)) (largest minutes rest)
   unfolding largest
-  largest_turn s p rest t n = rw t.members (omega arith)
+  largest_more e = rw e (omega arith)
 
-  pub largest_end : (n : ℕ) → n ≡ max n (largest minutes (members_of 0))
+  -- none is left
+  pub largest_none : left ≡ [] → n ≡ max n (largest minutes left)
   unfolding largest
-  largest_end n = rw members_empty (omega arith)
+  largest_none e = rw e (omega arith)

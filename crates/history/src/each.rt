@@ -6,8 +6,8 @@ ghost use Rattle.plan.specs.APlan.{records_of};
 ghost use Rattle.history.specs.History.{minute_in, in_bounds_from, earlier_from, each};
 ghost use Rattle.history.specs.Inside.{asked_from, asked};
 
-use crate::{ROOM, used, wide};
-use plan::{LINK, Plan, Record, split};
+use crate::ROOM;
+use plan::{LINK, Plan, Record, split, used};
 use points::{MOST, has};
 
 // A done link is in its bounds and a running one has not run out; a done link's start is in an earlier event than its end,
@@ -29,11 +29,11 @@ fn in_bounds(clock: u32, done: u32, a: u32, c: u32, r: Record) -> bool
     let ended = has(done, r.b);
     let x = split(r.first);
     let y = split(r.second);
-    let least = wide(a) + wide(x.up);
-    let most = wide(a) + wide(y.up);
-    let to = wide(c);
+    let least = u64::from(a) + u64::from(x.up);
+    let most = u64::from(a) + u64::from(y.up);
+    let to = u64::from(c);
     (!ended | (started & ((least <= to) & (to <= most))))
-        & (!(started & !ended) | (wide(clock) <= most))
+        & (!(started & !ended) | (u64::from(clock) <= most))
 }
 
 // Where a link's A and C are both done, A is in an earlier event than C.
@@ -88,13 +88,11 @@ pub fn every_record(plan: Plan, clock: u32, done: u32, minutes: [u32; ROOM], ask
     ensures { result ≡ each (asked clock done minutes ask) (records_of plan) }
 {
     let n = used(plan.count);
-    let mut i: usize = 0;
-    while i < n {
+    for i in 0..n {
         let r = plan.records[i];
         if !is_so_by(clock, done, &minutes, ask, r) {
             return false;
         }
-        i += 1;
     }
     true
 }

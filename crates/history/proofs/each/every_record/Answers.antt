@@ -1,6 +1,5 @@
 -- `history::each::every_record` meets its contract. Assumes nothing.
 use mathlib.Core.Path.{sym, ◌∙◌}
-use Prim.Native.Nat.{◌-◌}
 use Rattle.history.proofs.Walks.{left_start, left_fails, left_turn, left_end}
 use Rattle.history.proofs.each.every_record.Goals as goal
 

@@ -23,11 +23,9 @@ fn decode(bytes: &[u8], count: usize) -> Plan
 {
     let mut plan = empty(count);
     plan.count = count as u32;
-    let mut i: usize = 0;
-    while i < count {
+    for i in 0..count {
         let at = RECORD_BYTES * i;
         plan.records[i] = record_in(&bytes[at..]);
-        i += 1;
     }
     plan
 }
@@ -37,12 +35,10 @@ fn first_odd(bytes: &[u8], count: usize) -> usize
     requires { record_bytes * count ≤ length bytes.now }
     ensures { result ≡ first_odd (entries_in count bytes.now) }
 {
-    let mut i: usize = 0;
-    while i < count {
+    for i in 0..count {
         if bytes[RECORD_BYTES * i + 3] != 0 {
             return i;
         }
-        i += 1;
     }
     count
 }
@@ -56,10 +52,7 @@ fn with_odd(found: Refusal, odd: u32) -> Refusal
     if (found.number != ACCEPTED) & sooner {
         found
     } else {
-        Refusal {
-            number: NOT_ZERO,
-            place: odd,
-        }
+        Refusal::new(NOT_ZERO, odd)
     }
 }
 
@@ -112,10 +105,7 @@ pub fn write(plan: Plan, out: &mut [u8]) -> Refusal
         return found;
     }
     if out.len() < RECORD_BYTES * (plan.count as usize) {
-        return Refusal {
-            number: NO_ROOM,
-            place: 0,
-        };
+        return Refusal::new(NO_ROOM, 0);
     }
     let records = plan.records;
     put_records(records, plan.count as usize, out);

@@ -1,9 +1,8 @@
 -- `links::links_by` meets its contract. Assumes nothing.
-use Rattle.std.proofs.Common.{Bool, true, false, eqb, get_or, ◌≤◌, ℕ}
+use Rattle.std.proofs.Common.{Bool, true, false, eqb, get_or, ◌≤◌}
 use Rattle.plan.specs.APlan.{blank}
 use Rattle.std.specs.Int.{from_bool}
 use native.Mathlib.Omega.{arith}
-use Prim.Native.Nat.{◌-◌}
 use Rattle.plan.specs.APlan.{records_of}
 use Rattle.plan.proofs.Accepted.{accepted_plan}
 use Rattle.history.proofs.Tests.{both}

@@ -1,6 +1,6 @@
 -- `plan_file::decode` meets its contract. Assumes nothing.
 use mathlib.Core.Path.{◌≡◌}
-use Prim.Native.Nat.{◌≤◌, ◌-◌}
+use Prim.Native.Nat.{◌≤◌}
 use Rattle.plan_file.proofs.Decoding.{filled}
 use Rattle.plan_file.proofs.decode.Given as goal
 

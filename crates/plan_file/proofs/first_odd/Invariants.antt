@@ -1,5 +1,5 @@
 -- `plan_file::first_odd` meets its contract. Assumes nothing.
-use Prim.Native.Nat.{◌≤◌, ◌-◌}
+use Prim.Native.Nat.{◌≤◌}
 use Rattle.plan_file.proofs.Decoding.{Even}
 use Rattle.plan_file.proofs.first_odd.Given as goal
 

@@ -1,5 +1,5 @@
 -- `links::sets::all_running` meets its contract. Assumes nothing.
-use Rattle.std.proofs.Common.{sym, ◌∙◌, ap, not}
+use Rattle.std.proofs.Common.{ap, not}
 use borrow.Author.Tests.{not-true, not-false}
 use Rattle.points.proofs.Walks.{every_passed, every_failed, every_done}
 use Rattle.links.specs.Inside.{runs_at}

@@ -29,24 +29,11 @@ const NONE: u16 = MOST_RECORDS as u16;
 
 const MANY: u64 = BUCKETS as u64;
 
-fn wide(x: u16) -> usize
-    ensures { result ≡ x }
-{
-    x as usize
-}
-
-// The first where `so`, else the second.
-fn pick(so: bool, a: usize, b: usize) -> usize
-    ensures { result ≡ (if so then a else b) }
-{
-    if so { a } else { b }
-}
-
 // The list of a record of some kind and point, where the kinds below `least` are in no point's.
 fn key(least: u64, kind: u64, point: u64) -> usize
     ensures { (result ≡ key_of least kind point) × (result < buckets) }
 {
-    pick(kind < least, SIDE, index(point % MANY))
+    if kind < least { SIDE } else { index(point % MANY) }
 }
 
 fn key_at(rows: &[u32; SHEET], least: u64, field: usize, i: usize) -> usize
@@ -70,9 +57,7 @@ pub fn build(rows: &[u32; SHEET], least: u64, field: usize, count: usize, list: 
     ensures { Indexed (key_at rows.now least field) count list.new }
 {
     clear(&mut *list);
-    let mut i = count;
-    while 0 < i {
-        i -= 1;
+    for i in (0..count).rev() {
         let k = key_at(rows, least, field, i);
         list[BUCKETS + i] = list[k];
         list[k] = i as u16;
@@ -83,7 +68,7 @@ pub fn build(rows: &[u32; SHEET], least: u64, field: usize, count: usize, list: 
 pub fn start(list: &[u16; LIST], z: usize) -> usize
     ensures { result ≡ start_of list.now z }
 {
-    wide(list[z % BUCKETS])
+    usize::from(list[z % BUCKETS])
 }
 
 // Where a walk goes on from the record i, with so many entries left that it may still read.
@@ -91,5 +76,5 @@ pub fn onward(list: &[u16; LIST], i: usize, left: usize) -> usize
     requires { i < most_records }
     ensures { result ≡ onward_of list.now i left }
 {
-    pick(0 < left, wide(list[BUCKETS + i]), MOST_RECORDS)
+    if 0 < left { usize::from(list[BUCKETS + i]) } else { MOST_RECORDS }
 }

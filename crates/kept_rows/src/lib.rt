@@ -91,21 +91,33 @@ pub fn hold(row: Row) -> u32
 fn low_by(row: Row, t: u32) -> u32
     ensures { result ≡ low_by row t }
 {
-    if row.kind == ORDINARY_ROW { reach(t, 0, row.second, row.first) } else { 0 }
+    if row.kind == ORDINARY_ROW {
+        reach(t, 0, row.second, row.first)
+    } else {
+        0
+    }
 }
 
 // The minute before which a wait keeps its point, where its link started at t and runs.
 fn run_by(row: Row, t: u32) -> u32
     ensures { result ≡ run_by row t }
 {
-    if row.kind == WAIT_ROW { reach(t, 0, row.first, 0) } else { 0 }
+    if row.kind == WAIT_ROW {
+        reach(t, 0, row.first, 0)
+    } else {
+        0
+    }
 }
 
 // The minute, 100,000 up, past which an ordinary row does not let its second point come, where its first is done at t.
 fn high_by(row: Row, t: u32) -> u32
     ensures { result ≡ high_by row t }
 {
-    if row.kind == ORDINARY_ROW { reach(t, FARTHEST, row.first, row.second) } else { NEVER }
+    if row.kind == ORDINARY_ROW {
+        reach(t, FARTHEST, row.first, row.second)
+    } else {
+        NEVER
+    }
 }
 
 // ---- what a row changes of what is kept, once one of its points is done

@@ -4,10 +4,11 @@
 
 #![tactic(auto)]
 
-ghost use Rattle.std.specs.Prelude.{◌≡◌, ◌<◌, ◌≤◌, replicate, if◌then◌else◌};
+ghost use Rattle.std.specs.Prelude.{◌≡◌, ◌<◌, ◌≤◌, replicate};
+ghost use Rattle.std.specs.Iterator.{YieldsFirst, item_count};
 ghost use Rattle.plan.specs.Limits.{most_records};
 ghost use Rattle.rows.specs.Sheet.{width};
-ghost use Rattle.neighbours.specs.Lists.{buckets, list_room, key_of, key_at, start_of, onward_of, Indexed};
+ghost use Rattle.neighbours.specs.Lists.{buckets, list_room, key_of, key_at, entries_of, still_ahead, Indexed};
 
 use plan::{MOST_POINTS, MOST_RECORDS};
 use rows::{SHEET, index, word};
@@ -33,7 +34,11 @@ const MANY: u64 = BUCKETS as u64;
 fn key(least: u64, kind: u64, point: u64) -> usize
     ensures { (result ≡ key_of least kind point) × (result < buckets) }
 {
-    if kind < least { SIDE } else { index(point % MANY) }
+    if kind < least {
+        SIDE
+    } else {
+        index(point % MANY)
+    }
 }
 
 fn key_at(rows: &[u32; SHEET], least: u64, field: usize, i: usize) -> usize
@@ -64,17 +69,43 @@ pub fn build(rows: &[u32; SHEET], least: u64, field: usize, count: usize, list: 
     }
 }
 
-// Where the list of the point z starts.
-pub fn start(list: &[u16; LIST], z: usize) -> usize
-    ensures { result ≡ start_of list.now z }
-{
-    usize::from(list[z % BUCKETS])
+// A walk along a list: where it is, and how many records it may still give, so that it ends whatever the list holds.
+#[derive(Drop)]
+pub struct Walk<'a> {
+    list: &'a [u16; LIST],
+    at: usize,
+    left: usize,
 }
 
-// Where a walk goes on from the record i, with so many entries left that it may still read.
-pub fn onward(list: &[u16; LIST], i: usize, left: usize) -> usize
-    requires { i < most_records }
-    ensures { result ≡ onward_of list.now i left }
+impl<'a> Iterator for Walk<'a> {
+    type Item = usize;
+
+    ghost next_gives = { YieldsFirst still_ahead };
+
+    ghost remaining = { item_count still_ahead };
+
+    // The record where the walk is; it goes on to the next of the same list.
+    fn next(&mut self) -> Option<usize> {
+        if self.left == 0 {
+            return None;
+        }
+        if MOST_RECORDS <= self.at {
+            return None;
+        }
+        let i = self.at;
+        self.left -= 1;
+        self.at = usize::from(self.list[BUCKETS + i]);
+        Some(i)
+    }
+}
+
+// The records of the list of the point z, in order.
+pub fn entries(list: &[u16; LIST], z: usize) -> Walk<'_>
+    ensures { still_ahead result ≡ entries_of list.now z }
 {
-    if 0 < left { usize::from(list[BUCKETS + i]) } else { MOST_RECORDS }
+    Walk {
+        list,
+        at: usize::from(list[z % BUCKETS]),
+        left: MOST_RECORDS,
+    }
 }

@@ -7,5 +7,3 @@ use Rattle.kept_windows.proofs.holders_of.Given as goal
 abbrev pub invariant-loop-p : goal.invariant-loop-p
 invariant-loop-p l = Collecting l.rows l.out l.kept l.p l.holders
 
-abbrev pub decreases-loop-p : goal.decreases-loop-p
-decreases-loop-p l = most_points - l.p

@@ -46,7 +46,7 @@ fn high_of(kept: &[u32; KEPT], set: u32) -> u32
     let mut rest = set;
     while rest != 0 {
         let p = first(rest);
-        least = least.min(kept[HIGHS + usize::from(p)]);
+        least = least.min(kept[HIGHS + p as usize]);
         rest = without(rest, p);
     }
     least

@@ -17,7 +17,8 @@ unfoldable pub use Rattle.projection_runs.specs.ProjectionRuns.{bytes_of_all}
 pub use Rattle.all_runs.specs.WorstRun.{projections_of, Finish, worse, worst_of_all}
 unfoldable pub use Rattle.all_runs.specs.WorstRun.{worst_from}
 use Rattle.projection_runs.specs.ProjectionRuns.{events_of_run}
-use Rattle.all_runs.specs.declared.Found as all_runs
+-- what is found: a finishing minute, and the projection that has it
+pub use Rattle.all_runs.specs.declared.Found.{Found}
 
 -- the plan passes the test
 abbrev pub is_yes : Answer → Bool
@@ -34,22 +35,22 @@ refused_of p =
     else (if not (is_yes (test_of p)) then refusal 60 0
     else accepted))
 
-abbrev pub worst_at : ℕ → ℕ → Result all_runs.Found Refusal
+abbrev pub worst_at : ℕ → ℕ → Result Found Refusal
 worst_at t i = Ok (record { minute = t; projection = i })
 
 -- that, or the largest finishing minute and the first projection that reaches it
-unfoldable pub worst_of : Plan → Result all_runs.Found Refusal
+unfoldable pub worst_of : Plan → Result Found Refusal
 worst_of p =
     if not (eqb (refused_of p).number 0) then Err (refused_of p)
     else worst_at (worst_of_all p).minute (worst_of_all p).projection
 
 -- the number of an answer, 0 where nothing is refused, and the values that each case carries: a refusal's record, or the minute and
 -- the projection
-abbrev pub worst_number : Result all_runs.Found Refusal → ℕ
+abbrev pub worst_number : Result Found Refusal → ℕ
 worst_number (Err x) = x.number
 worst_number (Ok found) = 0
 
-abbrev pub worst_values : Result all_runs.Found Refusal → List ℕ
+abbrev pub worst_values : Result Found Refusal → List ℕ
 worst_values (Err x) = x.place ∷ []
 worst_values (Ok found) = found.minute ∷ found.projection ∷ []
 

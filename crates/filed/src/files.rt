@@ -3,10 +3,10 @@ ghost use Rattle.std.specs.Prelude.{◌≡◌};
 ghost use Rattle.filed.specs.Files.{check_answer, test_file, worst_file, day_file, day_left};
 
 use halves::answer_with;
-use plan::ACCEPTED;
+use plan::{ACCEPTED, Refusal};
 use plan_file::read;
 use vee::{Answer, test};
-use worst::{Day, Worst, day_of, worst_of};
+use worst::{Found, day_of, worst_of};
 
 // The reader's own refusal with its record, or 0 with how many records there are.
 pub fn check_file(file: &[u8]) -> u64
@@ -28,28 +28,30 @@ pub fn test_file(file: &[u8]) -> Answer
 }
 
 // The worst finishing minute.
-pub fn worst_file(file: &[u8]) -> Worst
+pub fn worst_file(file: &[u8]) -> Result<Found, Refusal>
     ensures { result ≡ worst_file file.now }
 {
     let reading = read(file);
     if reading.number != ACCEPTED {
-        return Worst::Refused(reading.number, reading.place);
+        return Err(Refusal {
+            number: reading.number,
+            place: reading.place,
+        });
     }
     worst_of(reading.plan)
 }
 
 // The day of a projection, at the front of the buffer.
-pub fn day_file(file: &[u8], projection: u32, out: &mut [u8]) -> Day
+pub fn day_file(file: &[u8], projection: u32, out: &mut [u8]) -> Result<u32, Refusal>
     ensures reply { result ≡ day_file file.now projection out.old }
     ensures bytes { out.new ≡ day_left file.now projection out.old }
 {
     let reading = read(file);
     if reading.number != ACCEPTED {
-        return Day {
+        return Err(Refusal {
             number: reading.number,
             place: reading.place,
-            events: 0,
-        };
+        });
     }
     day_of(reading.plan, projection, out)
 }

@@ -30,7 +30,7 @@ pub loop-rest-preserved : goal.loop-rest-preserved
 loop-rest-preserved c =
     let i = c.loop-rest.invariant in
     let t = turn _ _ _ (omega arith) i.0 c.first-p.ensures c.without-rest.ensures in
-    (t.fits, omega (arith, c.lesser-least.ensures, i.1), least_turn c.args.kept.now _ _ _ t _ _ c.lesser-least.ensures ∙ i.2)
+    (t.fits, omega (arith, c.min-least.ensures, i.1), least_turn c.args.kept.now _ _ _ t _ _ c.min-least.ensures ∙ i.2)
 
 pub returns : goal.returns
 returns c =

@@ -2,7 +2,9 @@
 use Prim.Native.Nat.{ℕ}
 use mathlib.Core.Path.{◌∙◌}
 use Rattle.plan.specs.declared.Plan.{Plan}
-use Rattle.worst.specs.WorstMinute.{day, day_of, day_written}
+use Rattle.std.specs.Prelude.{Err}
+use Rattle.plan.specs.ReplyNumbers.{refusal}
+use Rattle.worst.specs.WorstMinute.{day_of, day_written}
 use Rattle.halves.proofs.OfFile.{of_read, of_refused}
 use Rattle.filed.proofs.files.day_file.Goals as goal
 
@@ -12,7 +14,7 @@ returns-then-reading-ne-ACCEPTED c =
     let e = c.read-reading.ensures in
     let h = c.if-reading-ne-ACCEPTED.true in
     record {
-      reply = of_refused a.file.now (λ (p : Plan). day_of p a.projection a.out.now) (λ (number place : ℕ). day number place 0) _ e h;
+      reply = of_refused a.file.now (λ (p : Plan). day_of p a.projection a.out.now) (λ (number place : ℕ). Err (refusal number place)) _ e h;
       bytes = of_refused a.file.now (λ (p : Plan). day_written p a.projection a.out.now) (λ (number place : ℕ). a.out.now) _ e h;
     }
 
@@ -23,6 +25,6 @@ returns c =
     let h = c.if-reading-ne-ACCEPTED.false in
     let d = c.day_of.ensures in
     record {
-      reply = d.reply ∙ of_read a.file.now (λ (p : Plan). day_of p a.projection a.out.now) (λ (number place : ℕ). day number place 0) _ e h;
+      reply = d.reply ∙ of_read a.file.now (λ (p : Plan). day_of p a.projection a.out.now) (λ (number place : ℕ). Err (refusal number place)) _ e h;
       bytes = d.out ∙ of_read a.file.now (λ (p : Plan). day_written p a.projection a.out.now) (λ (number place : ℕ). a.out.now) _ e h;
     }

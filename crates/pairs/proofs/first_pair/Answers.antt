@@ -1,6 +1,5 @@
 -- `pairs::first_pair` meets its contract. Assumes nothing.
 use Rattle.pairs.proofs.Searches.{found, next_row, clean_all}
-use native.Mathlib.Omega.{arith}
 use Rattle.pairs.proofs.first_pair.Goals as goal
 
 pub returns-in-Some : goal.returns-in-Some

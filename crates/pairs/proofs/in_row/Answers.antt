@@ -1,5 +1,4 @@
 -- `pairs::in_row` meets its contract. Assumes nothing.
-use native.Mathlib.Omega.{arith}
 use Rattle.tables.specs.Entries.{raw}
 use Rattle.pairs.proofs.Searches.{is_undercut, is_kept_lem, stops, goes_on_lem, clean_row}
 use Rattle.pairs.proofs.in_row.Goals as goal

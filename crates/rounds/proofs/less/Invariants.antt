@@ -5,6 +5,3 @@ use Rattle.rounds.proofs.less.Given as goal
 
 abbrev pub invariant-loop-j : goal.invariant-loop-j
 invariant-loop-j l = Dropping l.n l.z l.drop l.t l.j l.l
-
-abbrev pub decreases-loop-j : goal.decreases-loop-j
-decreases-loop-j l = l.n - l.j

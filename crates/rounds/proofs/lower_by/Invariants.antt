@@ -6,6 +6,3 @@ use Rattle.rounds.proofs.lower_by.Given as goal
 
 abbrev pub invariant-loop-j : goal.invariant-loop-j
 invariant-loop-j l = Lowering l.x l.l l.initial.t l.j l.t
-
-abbrev pub decreases-loop-j : goal.decreases-loop-j
-decreases-loop-j l = side - l.j

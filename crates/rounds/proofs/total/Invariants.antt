@@ -6,6 +6,3 @@ use Rattle.rounds.proofs.total.Given as goal
 
 abbrev pub invariant-loop-q : goal.invariant-loop-q
 invariant-loop-q l = Summing l.t l.q l.all
-
-abbrev pub decreases-loop-q : goal.decreases-loop-q
-decreases-loop-q l = room - l.q

@@ -5,6 +5,3 @@ use Rattle.explained.proofs.reasons.sum_of.Given as goal
 
 abbrev pub invariant-loop-k : goal.invariant-loop-k
 invariant-loop-k l = Summing l.count l.steps l.k l.up l.down
-
-abbrev pub decreases-loop-k : goal.decreases-loop-k
-decreases-loop-k l = l.count - l.k

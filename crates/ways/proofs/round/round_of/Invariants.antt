@@ -5,6 +5,3 @@ use Rattle.ways.proofs.round.round_of.Given as goal
 
 abbrev pub invariant-loop-k : goal.invariant-loop-k
 invariant-loop-k l = Rounding l.sheet l.durations l.m l.n l.end l.k
-
-abbrev pub decreases-loop-k : goal.decreases-loop-k
-decreases-loop-k l = l.end - l.k

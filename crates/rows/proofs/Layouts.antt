@@ -174,9 +174,6 @@ module _ {p : Plan} {t : List ℕ} {q : ℕ} (s : Starting p t q) (h : 0 < q) wh
   unfolding first_that
   starting_other n = record { room = s.room; few = s.few; within = omega (arith, s.within); long = s.long; each = λ c l. rw (at_hand, ne_eqb r.kind 2 n) (s.each c l) }
 
-pub starting_all : {p : Plan} {t : List ℕ} {q : ℕ} → Starting p t q → q ≡ 0 → Starts (records_of p) t
-starting_all s e = record { long = s.long; each = rw e at s.each }
-
 -- the row of the record that the code reads
 laid_row : (p : Plan) (q : ℕ) {x : Row} {s s' : List ℕ} → p.count ≤ most_records → q < p.count → length s ≡ sheet_room → x ≡ row_of (records_of p) (get_or p.records q blank) → s' ≡ stored s q x
     → Written q (row_of (records_of p) (get_or (records_of p) q blank)) s s'

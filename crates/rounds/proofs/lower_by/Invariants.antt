@@ -1,6 +1,4 @@
 -- `rounds::lower_by` meets its contract. Assumes nothing.
-use Prim.Native.Nat.{◌-◌}
-use Rattle.tables.specs.Tables.{side}
 use Rattle.rounds.proofs.Lowering.{Lowering}
 use Rattle.rounds.proofs.lower_by.Given as goal
 

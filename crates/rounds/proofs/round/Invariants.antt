@@ -1,5 +1,5 @@
 -- `rounds::round` meets its contract. Assumes nothing.
-use Prim.Native.Nat.{◌-◌, ◌≤◌}
+use Prim.Native.Nat.{◌≤◌}
 use Rattle.rounds.specs.Ways.{Rounded}
 use Rattle.rounds.proofs.round.Given as goal
 

@@ -1,5 +1,5 @@
 -- `projection::once::once` meets its contract. Assumes nothing.
-use Prim.Native.Nat.{◌-◌, ◌≤◌}
+use Prim.Native.Nat.{◌≤◌}
 use Rattle.projection.specs.Once.{OnceDone}
 use Rattle.projection.proofs.once.once.Given as goal
 

@@ -1,6 +1,5 @@
 -- `lengths::meet` meets its contract. Assumes nothing.
 use Rattle.lengths.proofs.Meeting.{Meeting}
-use Prim.Native.Nat.{◌-◌}
 use Rattle.lengths.proofs.meet.Given as goal
 
 abbrev pub invariant-loop-k : goal.invariant-loop-k

@@ -1,6 +1,5 @@
 -- `vee::walk::projections` meets its contract. Assumes nothing.
 use Rattle.vee.proofs.Counts.{Counting}
-use Prim.Native.Nat.{◌-◌}
 use Rattle.vee.proofs.walk.projections.Given as goal
 
 abbrev pub invariant-loop-k : goal.invariant-loop-k

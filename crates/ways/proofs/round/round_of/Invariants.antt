@@ -1,6 +1,5 @@
 -- `ways::round::round_of` meets its contract. Assumes nothing.
 use Rattle.ways.proofs.Rounding.{Rounding}
-use Prim.Native.Nat.{◌-◌}
 use Rattle.ways.proofs.round.round_of.Given as goal
 
 abbrev pub invariant-loop-k : goal.invariant-loop-k

@@ -1,6 +1,5 @@
 -- `ways::toward::search` meets its contract. Assumes nothing.
 use Rattle.ways.proofs.Reaching.{Searching}
-use Prim.Native.Nat.{◌-◌}
 use Rattle.ways.proofs.toward.search.Given as goal
 
 abbrev pub invariant-loop-k : goal.invariant-loop-k

@@ -21,6 +21,7 @@ use Rattle.rows.specs.Layout.{row_of, RowIs, LaidOut}
 use Rattle.rows.proofs.Lays.{inside}
 use Rattle.projection.specs.Judging.{FirstBad}
 use Rattle.projection.proofs.Laws.{ends, fine_outside}
+use Rattle.vee.specs.declared.Answer.{Answer}
 use Rattle.vee.specs.declared.Answer.TheVariants as answer
 use Rattle.vee.specs.PlanTest.{spans, projections, unset, many, most_projections, edges_of, Found, good, cycle, pair, Tested, tested}
 use Rattle.vee.specs.Walked.{spans_in, WalkReady, RowsReady, CountedAs}
@@ -241,11 +242,11 @@ never_refused : {E : List ℕ → ℕ → ℕ → ℕ → ℕ → Type 0} {i n j
 never_refused (good g f) = never_refused f
 
 module _ {p : Plan} where
-  pub plain_refused : {n i : ℕ} → Tested p (answer.Refused n i) → {x : Explanation} → x ≡ nothing_more (answer.Refused n i) → Explained p x
-  plain_refused t e = rw e (plainly t refl)
-
-  pub plain_yes : {k : ℕ} → Tested p (answer.Yes k) → {x : Explanation} → x ≡ nothing_more (answer.Yes k) → Explained p x
-  plain_yes t e = rw e (plainly t refl)
+  pub plain : (r : Answer) → ((i : ℕ) → r ≡ answer.Cycle i → ⊥) → ((i X Y : ℕ) → r ≡ answer.Pair i X Y → ⊥) → Tested p r → {x : Explanation} → x ≡ nothing_more r → Explained p x
+  plain (answer.Refused n i) no_cycle no_pair t e = rw e (plainly t refl)
+  plain (answer.Yes k) no_cycle no_pair t e = rw e (plainly t refl)
+  plain (answer.Cycle i) no_cycle no_pair t e = absurd (no_cycle i refl)
+  plain (answer.Pair i X Y) no_cycle no_pair t e = absurd (no_pair i X Y refl)
 
 -- ---- the number of projections, as the code counts them
 

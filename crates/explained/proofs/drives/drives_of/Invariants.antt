@@ -1,6 +1,5 @@
 -- `explained::drives::drives_of` meets its contract. Assumes nothing.
 use Rattle.explained.proofs.Driving.{Driving}
-use Prim.Native.Nat.{◌-◌}
 use Rattle.explained.proofs.drives.drives_of.Given as goal
 
 abbrev pub invariant-loop-q : goal.invariant-loop-q

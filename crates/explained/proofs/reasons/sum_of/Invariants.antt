@@ -1,6 +1,5 @@
 -- `explained::reasons::sum_of` meets its contract. Assumes nothing.
 use Rattle.explained.proofs.Driving.{Summing}
-use Prim.Native.Nat.{◌-◌}
 use Rattle.explained.proofs.reasons.sum_of.Given as goal
 
 abbrev pub invariant-loop-k : goal.invariant-loop-k

@@ -5,7 +5,7 @@ ghost use Rattle.tables.specs.Tables.{side};
 ghost use Rattle.tables.specs.Entries.{raw};
 ghost use Rattle.ways.specs.Toward.{ExtendAsks, extends_by, TakeAsks, takes_by, SearchAsks, Searched, ReachAsks, Reached, FollowAsks, Followed, WayAsks, WayOf};
 
-use crate::steps::{Step, Way, is_edge, no_steps, step_at, wide};
+use crate::steps::{Step, Way, is_edge, no_steps, step_at};
 use rows::SHEET;
 use tables::{ROOM, SIDE};
 
@@ -24,8 +24,8 @@ fn extends(all: &[u32; ROOM], order: &[u32; SIDE], step: Step, y: usize) -> bool
 {
     let from = step.from;
     let to = step.to;
-    let here = wide(all[from * SIDE + y]);
-    let there = wide(all[to * SIDE + y]);
+    let here = u64::from(all[from * SIDE + y]);
+    let there = u64::from(all[to * SIDE + y]);
     (order[from] == 0) & ((0 < order[to]) & (here + step.down == there + step.up))
 }
 
@@ -93,10 +93,7 @@ fn reach(
         next[from] = step;
         k = search(all, &order, sheet, durations, m, y);
     }
-    Found {
-        order: order,
-        next: next,
-    }
+    Found { order, next }
 }
 
 // The steps from `x` on.
@@ -113,10 +110,7 @@ fn follow(order: [u32; SIDE], next: [Step; SIDE], x: usize) -> Way
         count += 1;
         here = step.to;
     }
-    Way {
-        count: count,
-        steps: steps,
-    }
+    Way { count, steps }
 }
 
 // The steps of a shortest way from `x` to `y` over the edges of the first `m` rows, whose distances `all` has.

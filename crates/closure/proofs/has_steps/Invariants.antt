@@ -8,6 +8,3 @@ use Rattle.closure.proofs.has_steps.Given as goal
 
 abbrev pub invariant-loop-i : goal.invariant-loop-i
 invariant-loop-i l = (length l.plan.records ≡ most_records) × (l.count ≡ l.plan.count) × (l.count ≤ most_records) × Looked l.plan l.found l.i
-
-abbrev pub decreases-loop-i : goal.decreases-loop-i
-decreases-loop-i l = l.count - l.i

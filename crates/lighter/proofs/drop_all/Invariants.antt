@@ -8,6 +8,3 @@ use Rattle.lighter.proofs.drop_all.Given as goal
 
 abbrev pub invariant-loop-i : goal.invariant-loop-i
 invariant-loop-i l = (l.total ≡ length (records_of l.initial.kept)) × Going (records_of l.initial.kept) l.many l.kept l.dropped l.count l.i
-
-abbrev pub decreases-loop-i : goal.decreases-loop-i
-decreases-loop-i l = l.total - l.i

@@ -7,6 +7,3 @@ use Rattle.closure.proofs.far.far_from.Given as goal
 
 abbrev pub invariant-loop-y : goal.invariant-loop-y
 invariant-loop-y l = NoneBelow l.n (λ Y. too_far (at l.t l.x Y)) l.y
-
-abbrev pub decreases-loop-y : goal.decreases-loop-y
-decreases-loop-y l = l.n - l.y

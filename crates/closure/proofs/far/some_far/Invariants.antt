@@ -8,6 +8,3 @@ use Rattle.closure.proofs.far.some_far.Given as goal
 
 abbrev pub invariant-loop-x : goal.invariant-loop-x
 invariant-loop-x l = NoneBelow l.n (λ X. among l.n (λ Y. too_far (at l.t X Y))) l.x
-
-abbrev pub decreases-loop-x : goal.decreases-loop-x
-decreases-loop-x l = l.n - l.x

@@ -8,6 +8,3 @@ use Rattle.closure.proofs.made.first_records.Given as goal
 
 abbrev pub invariant-loop-i : goal.invariant-loop-i
 invariant-loop-i l = (length l.plan.records ≡ most_records) × (length l.records ≡ most_records) × Copied l.plan l.n l.records l.i
-
-abbrev pub decreases-loop-i : goal.decreases-loop-i
-decreases-loop-i l = l.n - l.i

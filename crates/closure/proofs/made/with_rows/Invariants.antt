@@ -7,6 +7,3 @@ use Rattle.closure.proofs.made.with_rows.Given as goal
 
 abbrev pub invariant-loop-x : goal.invariant-loop-x
 invariant-loop-x l = RowsSofar (records_of l.initial.made) l.n (at l.t) l.x l.made
-
-abbrev pub decreases-loop-x : goal.decreases-loop-x
-decreases-loop-x l = l.n - l.x

@@ -1,25 +1,14 @@
 -- The walk over a piece, a byte at a time. Assumes nothing.
 use mathlib.Core.Path.{◌≡◌, refl, sym, ap, ◌∙◌}
-use mathlib.Core.Logic.{◌⊎◌, inl, inr}
-use mathlib.Core.List.{List, [], ◌∷◌}
-use native.Mathlib.Omega.{arith}
+use mathlib.Core.List.{List}
 use native.Mathlib.Numerals.{add-one}
 use lib.ListN.{length, drop, get_or, drop_of_length-le}
 use lib.Seq.{drop-cons}
-use mathlib.Core.Bool.{true, false, ◌||◌}
 use Prim.Native.Nat.{ℕ, suc, ◌+◌, ◌≤◌, ◌<◌}
-use lib.Dec.{eqb}
-use borrow.Author.Tests.{eq-eqb, ne_eqb}
-use Rattle.fields.specs.Quoting.{quote, comma, cr, lf, is_break, bare_act, quoted_act, closed_act, act_of}
-use Rattle.fields.specs.Inside.{end_step, behind_cr, kept, act_step, step_of, walk_to, walked, walk_from}
-use Rattle.fields.specs.declared.Place.{Place}
-use Rattle.fields.specs.declared.Place.TheVariants.{Bare, Quoted}
-use Rattle.fields.specs.declared.Act.{Act}
-use Rattle.fields.specs.declared.Act.TheVariants.{Keep, Break}
+use Rattle.fields.specs.Inside.{step_of, walk_to, walked, walk_from}
 use Rattle.fields.specs.declared.Spot.{Spot}
 use Rattle.fields.specs.declared.Step.{Step}
 use Rattle.fields.specs.declared.Step.TheVariants.{On, Comma, Ends, Broken}
-use Rattle.fields.specs.declared.Walk.{Walk}
 
 -- the walk, one byte further
 module _ (s : Spot) (piece : List ℕ) (i : ℕ) where

@@ -1,8 +1,7 @@
 -- `fields::walk_from` meets its contract. Assumes nothing.
 use mathlib.Core.Path.{◌≡◌, refl, sym, ◌∙◌}
 use native.Mathlib.Omega.{arith}
-use borrow.Enum.Refused.{opened}
-use Rattle.fields.proofs.Turning.{walk_on, walk_stop, walk_end, not_on}
+use Rattle.fields.proofs.Turning.{walk_on, walk_stop, walk_end}
 use Rattle.fields.proofs.walk_from.Goals as goal
 
 pub loop-i-init : goal.loop-i-init

@@ -4,7 +4,7 @@
 
 #![tactic(auto)]
 
-ghost use Rattle.std.specs.Prelude.{◌≡◌, [], ◌∷◌, ◌+◌, ◌%◌, ◌≤◌, length};
+ghost use Rattle.std.specs.Prelude.{◌≡◌, [], ◌∷◌, ◌+◌, ◌%◌, ◌≤◌, length, min, take};
 ghost use Rattle.lines.specs.Text.{room, line_of, letters, decimal, piece_text, more_text, text_of};
 ghost use Rattle.lines.specs.Inside.{with, RoomFor, Spelt};
 
@@ -16,6 +16,7 @@ pub use shapes::{four, number, numbers, pair, state, state_at, state_by, three, 
 // thirty-two bits, and what stands between them.
 pub const ROOM: usize = 128;
 
+// A fixed buffer with its length, since the project has no heap.
 #[derive(Clone, Copy)]
 pub struct Line {
     pub len: usize,
@@ -38,6 +39,15 @@ const DIGITS: usize = 20;
 struct Digits {
     from: usize,
     digits: [u8; DIGITS],
+}
+
+impl Line {
+    // The text of the line; the whole room where its length is past that.
+    pub fn text(&self) -> &[u8]
+        ensures { result.now ≡ take (min self.now.len (length self.now.bytes)) self.now.bytes }
+    {
+        &self.bytes[..self.len.min(ROOM)]
+    }
 }
 
 // An empty line.

@@ -11,9 +11,6 @@ mod ending;
 
 pub use ending::{append, behind, fits, within};
 
-// The code of the digit 0.
-pub const NOUGHT: u8 = 48;
-
 // A text as it is.
 pub fn put(out: &mut [u8], at: usize, text: &[u8]) -> usize
     requires { Room out.old at text.now }
@@ -46,11 +43,11 @@ pub fn put_number(out: &mut [u8], at: usize, n: u32) -> usize
     let mut i = next - 1;
     let mut m = n;
     while 10 <= m {
-        out[i] = NOUGHT + (m % 10) as u8;
+        out[i] = b'0' + (m % 10) as u8;
         m = m / 10;
         i = i - 1;
     }
-    out[i] = NOUGHT + (m as u8);
+    out[i] = b'0' + (m as u8);
     next
 }
 

@@ -5,6 +5,7 @@ use Prim.Native.Nat.{ℕ, suc, ◌*◌, ◌≤◌}
 use native.Mathlib.Omega.{arith}
 use lib.ListN.{length, drop, length-map}
 use borrow.Author.Tests.{le-ltb}
+use Rattle.std.specs.Prelude.{Ok}
 use Rattle.numbers.specs.Fits.{All, IsByte}
 use Rattle.records.specs.Records as records
 use Rattle.records.specs.Limits.{record_bytes}
@@ -23,7 +24,7 @@ use Rattle.sayings.specs.declared.Said.{Said}
 use Rattle.sayings.specs.declared.Said.TheVariants.{Plan}
 use Rattle.lines.specs.Text.{piece_text, more_text}
 use Rattle.phrases.specs.Phrases.{cut, filled, uncommented, without_crs}
-use Rattle.listing.specs.Listing.{outcome, outcome_of, lines_of, good, line_row, row_of, listed, all_said, packed, written, answer, answer_of, buffer_of}
+use Rattle.listing.specs.Listing.{outcome, outcome_of, lines_of, good, line_row, row_of, listed, all_said, packed, written, answer_of, buffer_of}
 use Rattle.listed.specs.Listed.{record_text, listing_of, PacksBack}
 use Rattle.listed.proofs.Typing.{words_typed, line_unbroken, line_first}
 use Rattle.listed.proofs.Rowing.{Line, line_of}
@@ -79,7 +80,7 @@ module _ (s : List ℕ) (b : All IsByte s) (e : (read_of s).number ≡ 0) where
       (read_length s e)
 
   module _ (out : List ℕ) (room : length s ≤ length out) where
-    answers : answer_of (listing_of rs) out ≡ answer 0 0 (length s)
+    answers : answer_of (listing_of rs) out ≡ Ok (length s)
     answers = ap (packed (length out)) says ∙ rw (long, le-ltb (length out) (length s) room)
 
     writes : buffer_of (listing_of rs) out ≡ s ++ drop (length s) out

@@ -2,7 +2,7 @@
 ghost use Rattle.std.specs.Prelude.{◌≡◌};
 ghost use Rattle.filed.specs.Files.{check_answer, test_file, worst_file, day_file, day_left};
 
-use halves::answer_with;
+use halves::answer;
 use plan::ACCEPTED;
 use plan_file::read;
 use vee::{Answer, test};
@@ -12,30 +12,30 @@ use worst::{Day, Worst, day_of, worst_of};
 pub fn check_file(file: &[u8]) -> u64
     ensures { result ≡ check_answer file.now }
 {
-    let reading = read(file);
-    answer_with(reading.number, reading.place, reading.plan.count)
+    match read(file) {
+        Ok(plan) => answer(ACCEPTED, plan.count),
+        Err(refusal) => answer(refusal.number, refusal.place),
+    }
 }
 
 // The plan test.
 pub fn test_file(file: &[u8]) -> Answer
     ensures { result ≡ test_file file.now }
 {
-    let reading = read(file);
-    if reading.number != ACCEPTED {
-        return Answer::Refused(reading.number, reading.place);
+    match read(file) {
+        Ok(plan) => test(plan),
+        Err(refusal) => Answer::Refused(refusal.number, refusal.place),
     }
-    test(reading.plan)
 }
 
 // The worst finishing minute.
 pub fn worst_file(file: &[u8]) -> Worst
     ensures { result ≡ worst_file file.now }
 {
-    let reading = read(file);
-    if reading.number != ACCEPTED {
-        return Worst::Refused(reading.number, reading.place);
+    match read(file) {
+        Ok(plan) => worst_of(plan),
+        Err(refusal) => Worst::Refused(refusal.number, refusal.place),
     }
-    worst_of(reading.plan)
 }
 
 // The day of a projection, at the front of the buffer.
@@ -43,13 +43,12 @@ pub fn day_file(file: &[u8], projection: u32, out: &mut [u8]) -> Day
     ensures reply { result ≡ day_file file.now projection out.old }
     ensures bytes { out.new ≡ day_left file.now projection out.old }
 {
-    let reading = read(file);
-    if reading.number != ACCEPTED {
-        return Day {
-            number: reading.number,
-            place: reading.place,
+    match read(file) {
+        Ok(plan) => day_of(plan, projection, out),
+        Err(refusal) => Day {
+            number: refusal.number,
+            place: refusal.place,
             events: 0,
-        };
+        },
     }
-    day_of(reading.plan, projection, out)
 }

@@ -5,7 +5,7 @@ use mathlib.Core.List.{List}
 use Prim.Native.Nat.{ℕ}
 use native.Mathlib.Decide.{ℕ_discrete}
 use Rattle.plan.specs.APlan.{records_of}
-use Rattle.plan.specs.ReplyNumbers.{read_of}
+use Rattle.plan.specs.ReplyNumbers.{read_of, number_in, plan_in}
 use Rattle.plan.specs.declared.Refusal.{Refusal}
 use Rattle.lighter.specs.declared.Lighter.{Lighter}
 use Rattle.lighter.proofs.Theorems.{one_lighter}
@@ -38,14 +38,14 @@ one_said links rows out kept room room' x y =
 module _ (s links₀ rows₀ into₀ out₀ ends₀ kept₀ links rows into out ends kept links' rows' into' out' ends' kept' : List ℕ) (r r' : ℕ)
     (x : BeginsFrom s links₀ rows₀ into₀ out₀ ends₀ kept₀ r links rows into out ends kept) (y : BeginsFrom s links₀ rows₀ into₀ out₀ ends₀ kept₀ r' links' rows' into' out' ends' kept') where
   pub begun_same : (links ≡ links') × SameRooms rows into out ends kept rows' into' out' ends' kept'
-  begun_same = go (ℕ_discrete (read_of s).number 0)
+  begun_same = go (ℕ_discrete (number_in (read_of s)) 0)
     where
-      go : Dec ((read_of s).number ≡ 0) → (links ≡ links') × SameRooms rows into out ends kept rows' into' out' ends' kept'
+      go : Dec (number_in (read_of s) ≡ 0) → (links ≡ links') × SameRooms rows into out ends kept rows' into' out' ends' kept'
       go (yes e) =
           let a = x.taken e in
           let b = y.taken e in (
-            a.held ∙ ap links_room (one_links (records_of (read_of s).plan) a.of b.of a.are b.are) ∙ sym b.held,
-            filled_same (records_of (read_of s).plan) rows into out ends kept rows' into' out' ends' kept' a.rooms b.rooms,
+            a.held ∙ ap links_room (one_links (records_of (plan_in (read_of s))) a.of b.of a.are b.are) ∙ sym b.held,
+            filled_same (records_of (plan_in (read_of s))) rows into out ends kept rows' into' out' ends' kept' a.rooms b.rooms,
           )
       go (no n) =
           let a = x.refused n in

@@ -11,14 +11,12 @@ use std::io::Stdin;
 // What is known after all of the input.
 fn fed(input: Stdin, room: &mut [u8]) -> Feeding {
     let mut state = begin();
-    let mut turns = u64::MAX;
-    while turns > 0 {
+    for _ in 0..u64::MAX {
         let n = read_full(input, room);
         state = feed(state, &room[..n]);
         if n < room.len() {
             break;
         }
-        turns -= 1;
     }
     state
 }

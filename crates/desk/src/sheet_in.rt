@@ -62,14 +62,12 @@ pub(crate) fn sheet_in(input: Stdin) -> Sheet {
     let chunk: &mut [u8] = &mut room;
     let mut sheet = Sheet::new();
     let mut n: usize = 0;
-    let mut turns = u64::MAX;
-    while turns > 0 {
+    for _ in 0..u64::MAX {
         n = read_full(input, chunk);
         sheet = taken(sheet, chunk, n / RECORD);
         if n < chunk.len() {
             break;
         }
-        turns -= 1;
     }
     sheet.ended((n % RECORD) as u64, chunk)
 }

@@ -13,7 +13,6 @@ use engine::KEPT;
 use halves::{answer_with, half};
 use hulls::board_in;
 use links::links_by;
-use plan::ACCEPTED;
 use plan_file::read;
 use verdict::{Verdict, verdict_of};
 
@@ -21,12 +20,10 @@ use verdict::{Verdict, verdict_of};
 pub fn verdict_file(file: &[u8], kept: &[u32; KEPT]) -> Verdict
     ensures { result ≡ verdict_file file.now kept.now }
 {
-    let reading = read(file);
-    if reading.number != ACCEPTED {
-        return Verdict::Refused(reading.number, reading.place);
+    match read(file) {
+        Ok(plan) => verdict_of(plan, board_in(kept)),
+        Err(refusal) => Verdict::Refused(refusal.number, refusal.place),
     }
-    let board = board_in(kept);
-    verdict_of(reading.plan, board)
 }
 
 // The calendar, at the front of the buffer.
@@ -34,17 +31,19 @@ pub fn calendar_file(file: &[u8], kept: &[u32; KEPT], origin: Stamp, out: &mut [
     ensures reply { result ≡ calendar_file file.now kept.now origin out.old }
     ensures bytes { out.new ≡ calendar_left file.now kept.now origin out.old }
 {
-    let reading = read(file);
-    if reading.number != ACCEPTED {
-        return Calendar {
-            number: reading.number,
-            place: reading.place,
-            length: 0,
-        };
-    }
+    let plan = match read(file) {
+        Ok(plan) => plan,
+        Err(refusal) => {
+            return Calendar {
+                number: refusal.number,
+                place: refusal.place,
+                length: 0,
+            };
+        }
+    };
     let board = board_in(kept);
-    let links = links_by(reading.plan, true);
-    write_by(links, ponds_of(reading.plan), board, origin, out)
+    let links = links_by(plan, true);
+    write_by(links, ponds_of(plan), board, origin, out)
 }
 
 // The same, minute 0 being the date, hour and minute that are given: the refusal, or 0 with the text's length.

@@ -9,7 +9,7 @@ ghost use Rattle.feeding.specs.Parts.{FirstPut, ReadBegun, TailPut, EndPut};
 use engine::{KEPT, LIST};
 use links::Links;
 use places::{ROOM, ponds_of};
-use plan::{ACCEPTED, Plan, Reading};
+use plan::{ACCEPTED, Plan, Refusal, plan_in};
 use rows::SHEET;
 use saying::{put_board, put_line};
 
@@ -47,7 +47,7 @@ fn put_first(
 // The plan part has ended, and reads to this.
 pub fn begin_read(
     full: bool,
-    reading: Reading,
+    reading: Result<Plan, Refusal>,
     rows: &mut [u32; SHEET],
     into: &mut [u16; LIST],
     out: &mut [u16; LIST],
@@ -59,18 +59,18 @@ pub fn begin_read(
     ensures begun { ReadBegun full reading rows.old into.old out.old ends.old kept.old lines.old rows.new into.new out.new ends.new kept.new lines.new result }
     ensures few { result.end ≤ room * (most_points + 2) }
 {
-    let plan = reading.plan;
+    let plan = plan_in(reading);
     let started = engine::begin(
         plan, &mut *rows, &mut *into, &mut *out, &mut *ends, &mut *kept,
     );
     let links = started.links;
     let ponds = ponds_of(plan);
-    if reading.number != ACCEPTED {
+    if let Err(refusal) = reading {
         return Begun {
-            number: reading.number,
+            number: refusal.number,
             links: links,
             ponds: ponds,
-            end: put_line(lines, 0, text::plan_line(reading.number, reading.place)),
+            end: put_line(lines, 0, text::plan_line(refusal.number, refusal.place)),
         };
     }
     Begun {

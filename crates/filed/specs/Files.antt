@@ -1,7 +1,7 @@
 -- What is answered of a plan file, given as its bytes s: the reader's own refusal, or what the rules say of the plan that it reads to. Each
 -- name is one of the rules' own definitions at that plan. Assumes nothing.
 use Rattle.std.specs.Prelude.{Result, Ok, Err, List, ℕ}
-use Rattle.plan.specs.ReplyNumbers.{read_of, refusal}
+use Rattle.plan.specs.ReplyNumbers.{number_in, place_in, plan_in, read_of, refusal}
 use Rattle.vee.specs.TestOf.{test_of}
 use Rattle.vee.specs.declared.Answer.{Answer}
 use Rattle.vee.specs.declared.Answer.TheVariants as answer
@@ -12,7 +12,7 @@ use Rattle.halves.specs.OfFile.{of_file}
 
 -- the reader's refusal, or 0 and how many records there are
 abbrev pub check_answer : List ℕ → ℕ
-check_answer s = answer_with (read_of s).number (read_of s).place (read_of s).plan.count
+check_answer s = answer_with (number_in (read_of s)) (place_in (read_of s)) (plan_in (read_of s)).count
 
 -- the plan test and the worst finishing minute
 abbrev pub test_file : List ℕ → Answer

@@ -2,7 +2,7 @@
 ghost use Rattle.std.specs.Prelude.{◌≡◌};
 ghost use Rattle.filed.specs.Files.{check_answer, test_file, worst_file, day_file, day_left};
 
-use halves::answer_with;
+use halves::answer;
 use plan::{ACCEPTED, Refusal};
 use plan_file::read;
 use vee::{Answer, test};
@@ -12,33 +12,27 @@ use worst::{Found, day_of, worst_of};
 pub fn check_file(file: &[u8]) -> u64
     ensures { result ≡ check_answer file.now }
 {
-    let reading = read(file);
-    answer_with(reading.number, reading.place, reading.plan.count)
+    match read(file) {
+        Ok(plan) => answer(ACCEPTED, plan.count),
+        Err(refusal) => answer(refusal.number, refusal.place),
+    }
 }
 
 // The plan test.
 pub fn test_file(file: &[u8]) -> Answer
     ensures { result ≡ test_file file.now }
 {
-    let reading = read(file);
-    if reading.number != ACCEPTED {
-        return Answer::Refused(reading.number, reading.place);
+    match read(file) {
+        Ok(plan) => test(plan),
+        Err(refusal) => Answer::Refused(refusal.number, refusal.place),
     }
-    test(reading.plan)
 }
 
 // The worst finishing minute.
 pub fn worst_file(file: &[u8]) -> Result<Found, Refusal>
     ensures { result ≡ worst_file file.now }
 {
-    let reading = read(file);
-    if reading.number != ACCEPTED {
-        return Err(Refusal {
-            number: reading.number,
-            place: reading.place,
-        });
-    }
-    worst_of(reading.plan)
+    worst_of(read(file)?)
 }
 
 // The day of a projection, at the front of the buffer.
@@ -46,12 +40,5 @@ pub fn day_file(file: &[u8], projection: u32, out: &mut [u8]) -> Result<u32, Ref
     ensures reply { result ≡ day_file file.now projection out.old }
     ensures bytes { out.new ≡ day_left file.now projection out.old }
 {
-    let reading = read(file);
-    if reading.number != ACCEPTED {
-        return Err(Refusal {
-            number: reading.number,
-            place: reading.place,
-        });
-    }
-    day_of(reading.plan, projection, out)
+    day_of(read(file)?, projection, out)
 }

@@ -7,7 +7,7 @@ use board::Board;
 use bounds::Bound;
 use handles::{read_full, write_all};
 use lent::{Judged, LIST_ROOM, judge_list};
-use plan::Plan;
+use plan::{Plan, plan_in};
 use plan_file::read;
 use std::io::Stdout;
 
@@ -138,10 +138,8 @@ fn main(rt: HostRuntime) {
     let out = rt.stdout();
     let mut bytes = [0u8; 144];
     let n = read_full(rt.stdin(), &mut bytes);
-    let haul = read(&bytes[..n]);
-    let none = read(&bytes[..0]);
-    let plan = haul.plan;
-    let empty = none.plan;
+    let plan = plan_in(read(&bytes[..n]));
+    let empty = plan_in(read(&bytes[..0]));
     numbers(out, plan);
     points(out, plan);
     lengths(out, plan);

@@ -14,7 +14,7 @@ use Rattle.records.specs.Held.{Held, plain}
 use Rattle.records.specs.declared.Record.{Record}
 use Rattle.rules.proofs.Passed.{Passed, passed}
 use Rattle.plan.specs.APlan.{records_of}
-use Rattle.plan.specs.ReplyNumbers.{after, number_of, first_bad, first_bad_with, check_of, read_of}
+use Rattle.plan.specs.ReplyNumbers.{after, number_of, first_bad, first_bad_with, check_of, read_of, number_in, plan_in}
 use Rattle.plan.specs.declared.Refusal.{Refusal}
 use Rattle.plan.proofs.Entries as Entries
 use Rattle.plan.proofs.Accepted.{none_refused}
@@ -61,22 +61,22 @@ unfolding all_said all_bytes
 said_bytes [] = refl
 said_bytes (r ∷ rs) = rw (said_bytes rs)
 
-module _ (s : List ℕ) (b : All IsByte s) (e : (read_of s).number ≡ 0) where
+module _ (s : List ℕ) (b : All IsByte s) (e : number_in (read_of s) ≡ 0) where
   abbrev rs : List Record
-  rs = records_of (read_of s).plan
+  rs = records_of (plan_in (read_of s))
 
   abbrev xs : List Said
   xs = map (λ (r : Record). Plan r) rs
 
-  sound : (check_of (read_of s).plan).number ≡ 0
+  sound : (check_of (plan_in (read_of s))).number ≡ 0
   sound = rw (read_is_checked s e)
 
   says : outcome_of (listing_of rs) ≡ listed xs
-  says = rows_said rs (all_lines [] rs (records_held (read_of s).plan (read_held s b)) (none_refused (read_of s).plan sound)) 1
+  says = rows_said rs (all_lines [] rs (records_held (plan_in (read_of s)) (read_held s b)) (none_refused (plan_in (read_of s)) sound)) 1
 
   long : record_bytes * length xs ≡ length s
   long =
-      rw (length-map, length_records (read_of s).plan (read_held s b) (checked_count (read_of s).plan sound).1)
+      rw (length-map, length_records (plan_in (read_of s)) (read_held s b) (checked_count (plan_in (read_of s)) sound).1)
       (read_length s e)
 
   module _ (out : List ℕ) (room : length s ≤ length out) where

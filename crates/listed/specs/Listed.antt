@@ -5,7 +5,7 @@ use Rattle.numbers.specs.Fits.{All, IsByte}
 use Rattle.records.specs.Records.{point, link, ordinary, wait, is}
 use Rattle.records.specs.declared.Record.{Record}
 use Rattle.plan.specs.APlan.{records_of}
-use Rattle.plan.specs.ReplyNumbers.{read_of}
+use Rattle.plan.specs.ReplyNumbers.{read_of, number_in, plan_in}
 use Rattle.lines.specs.Text.{line_of, text_of}
 use Rattle.lines.specs.declared.Line.{Line}
 use Rattle.lines.specs.declared.Piece.TheVariants.{Name, Number}
@@ -58,6 +58,6 @@ listing_of (r ∷ rs) = record_text r ++ listing_of rs
 -- file's, where there is room for them.
 abbrev pub PacksBack : Type 0
 PacksBack =
-    (s out : List ℕ) → All IsByte s → (read_of s).number ≡ 0 → length s ≤ length out
-    → (answer_of (listing_of (records_of (read_of s).plan)) out ≡ Ok (length s))
-    × (buffer_of (listing_of (records_of (read_of s).plan)) out ≡ s ++ drop (length s) out)
+    (s out : List ℕ) → All IsByte s → number_in (read_of s) ≡ 0 → length s ≤ length out
+    → (answer_of (listing_of (records_of (plan_in (read_of s)))) out ≡ Ok (length s))
+    × (buffer_of (listing_of (records_of (plan_in (read_of s)))) out ≡ s ++ drop (length s) out)

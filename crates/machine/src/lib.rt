@@ -10,13 +10,11 @@
 ghost use Rattle.std.specs.Prelude.{◌≡◌, true};
 ghost use Rattle.machine.specs.Feeds.{at_first};
 
-mod carried;
 mod ended;
-mod fed_plan;
 mod pieces;
 mod plan_part;
 
-pub use carried::carry;
+pub use chunks::carry;
 pub use ended::finish;
 use links::{End, Links};
 pub use pieces::feed;

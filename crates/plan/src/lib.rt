@@ -9,7 +9,7 @@ ghost use Rattle.std.specs.Prelude.{◌≡◌, [], min};
 ghost use Rattle.plan.specs.Limits.{most_records};
 ghost use Rattle.plan.specs.APlan.{plan_of, records_of, how_many, points, links, ends_at, watched, place_of};
 ghost use Rattle.plan.specs.Inside.{of_byte};
-ghost use Rattle.plan.specs.ReplyNumbers.{check_of, refusal, refused};
+ghost use Rattle.plan.specs.ReplyNumbers.{check_of, plan_in, refusal, refused};
 
 pub use numbers::{Gap, split};
 use records::blanks;
@@ -50,14 +50,6 @@ pub struct Refusal {
     pub place: u32,
 }
 
-// What reading answers: number 0 and the plan, or a number, the first bad record and a plan without records.
-#[derive(Clone, Copy)]
-pub struct Reading {
-    pub number: u32,
-    pub place: u32,
-    pub plan: Plan,
-}
-
 // A plan without records, all its room zero, whatever number is handed in (`blanks` of `records`).
 pub fn empty(any: usize) -> Plan
     ensures { result ≡ plan_of [] }
@@ -69,15 +61,20 @@ pub fn empty(any: usize) -> Plan
     }
 }
 
-// What reading answers where it refuses: no record of the file is shown.
-pub fn refuse(number: u32, place: u32) -> Reading
+// What reading answers where it refuses.
+pub fn refuse(number: u32, place: u32) -> Result<Plan, Refusal>
     ensures { result ≡ refused (refusal number place) }
 {
-    let plan = empty(place as usize);
-    Reading {
-        number: number,
-        place: place,
-        plan: plan,
+    Err(answer(number, place))
+}
+
+// The plan that was read, for who goes on with one either way: where reading refused, no record of the file is shown.
+pub fn plan_in(reading: Result<Plan, Refusal>) -> Plan
+    ensures { result ≡ plan_in reading }
+{
+    match reading {
+        Ok(plan) => plan,
+        Err(_) => empty(0),
     }
 }
 

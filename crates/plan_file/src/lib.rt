@@ -11,8 +11,8 @@ ghost use Rattle.plan.specs.ReplyNumbers.{first_bad, read_of, check_of, write_of
 ghost use Rattle.plan_file.specs.Inside.{records_in, first_odd, with_odd};
 
 use plan::{
-    ACCEPTED, MOST_RECORDS, NO_BYTES, NO_ROOM, NOT_WHOLE, NOT_ZERO, Plan, RECORD_BYTES, Reading,
-    Refusal, TOO_LONG, check, empty, refuse,
+    ACCEPTED, MOST_RECORDS, NO_BYTES, NO_ROOM, NOT_WHOLE, NOT_ZERO, Plan, RECORD_BYTES, Refusal,
+    TOO_LONG, check, empty, refuse,
 };
 use records::{put_records, record_in};
 
@@ -69,7 +69,7 @@ fn first_bad(found: Refusal, bytes: &[u8], count: usize) -> Refusal
 }
 
 // Reads a plan file: the plan, or the number and the first bad record.
-pub fn read(bytes: &[u8]) -> Reading
+pub fn read(bytes: &[u8]) -> Result<Plan, Refusal>
     ensures { result ≡ read_of bytes.now }
 {
     let n = bytes.len();
@@ -86,13 +86,9 @@ pub fn read(bytes: &[u8]) -> Reading
     let plan = decode(bytes, count);
     let found = first_bad(check(plan), bytes, count);
     if found.number != ACCEPTED {
-        return refuse(found.number, found.place);
+        return Err(found);
     }
-    Reading {
-        number: ACCEPTED,
-        place: 0,
-        plan: plan,
-    }
+    Ok(plan)
 }
 
 // Writes a plan's file into the front of the buffer; a refusal changes no byte of it.

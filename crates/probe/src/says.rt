@@ -34,8 +34,8 @@ pub fn mixed(sum: u32, x: u32) -> u32 {
 // The sum over a buffer's bytes.
 pub fn sum_of(bytes: &[u8]) -> u32 {
     let mut sum: u32 = 0;
-    for i in 0..bytes.len() {
-        sum = mixed(sum, wide(bytes[i]));
+    for &b in bytes {
+        sum = mixed(sum, wide(b));
     }
     sum
 }
@@ -51,8 +51,7 @@ fn with_record(sum: u32, r: Record) -> u32 {
 // The sum over all records of a plan, those past its count too.
 pub fn sum_of_plan(plan: Plan) -> u32 {
     let mut sum = plan.count;
-    for i in 0..MOST_RECORDS {
-        let r = plan.records[i];
+    for r in plan.records {
         sum = with_record(sum, r);
     }
     sum

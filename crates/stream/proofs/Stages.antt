@@ -1,25 +1,16 @@
 -- What a record does to a sheet, from what the code's calls answer. Assumes nothing.
 use Rattle.std.proofs.Common.{◌≡◌, ℕ, ◌+◌, ◌%◌, ◌^◌, min, true, false, not, ◌&&◌, eqb, List, length, take, sym, refl, ap, ◌∙◌, eq-eqb, ne_eqb}
-use Rattle.plan.specs.ReplyNumbers.{read_of}
-use Rattle.plan.specs.declared.Reading.{Reading}
+use Rattle.plan.specs.ReplyNumbers.{Reading, read_of}
 use Rattle.board.specs.Events.{taken, take_of}
 use Rattle.board.specs.Streams.{many_in, take_all_of}
 use Rattle.board.specs.declared.Taken.{Taken}
-use Rattle.stream.specs.Sheets.{shown, read_front, begins, begun_of, turned, playing, over, begun, refused, nothing, event, played_of, tail, quiet, ended_of}
+use Rattle.stream.specs.Sheets.{shown, read_front, turned, playing, nothing, event, played_of, tail, quiet, ended_of}
 use Rattle.stream.specs.Many.{all_played_of}
 use Rattle.stream.specs.declared.sheet.Sheet.{Sheet}
 
 -- the part of the buffer that is read
 pub part_read : (m : ℕ) (front : List ℕ) {r : Reading} {n k : ℕ} → r ≡ read_of (take n front) → n ≡ min k (length front) → k ≡ shown m → r ≡ read_front m front
 part_read m front {r} {n} {k} er en ek = rw (er, en, ek)
-
--- a plan part that is read
-pub begins_read : (s : Sheet) (front : List ℕ) {r : Reading} → r ≡ read_front s.length front → r.number ≡ 0 → turned s playing begun r.plan s.taken ≡ begun_of s front
-begins_read s front {r} e h = rw (eq-eqb r.number 0 h) refl ∙ ap (begins s) e
-
--- a plan part that is refused
-pub begins_refused : (s : Sheet) (front : List ℕ) {r : Reading} → r ≡ read_front s.length front → (r.number ≡ 0 → ⊥) → turned s over refused s.plan (taken r.number r.place s.taken.board) ≡ begun_of s front
-begins_refused s front {r} e h = rw (ne_eqb r.number 0 h) refl ∙ ap (begins s) e
 
 -- an event
 pub played_by : (s : Sheet) (bytes : List ℕ) {t : Taken} {n : ℕ} → t ≡ take_of s.plan s.taken.board bytes → n ≡ (s.events + 1) % 2 ^ 64

@@ -1,11 +1,10 @@
 -- Document 01, "The printing program": the input, record by record. A sheet is what has come so far; each record gives the
 -- next one, which says what there is to print. Assumes nothing.
-use Rattle.std.specs.Prelude.{ℕ, ◌+◌, ◌*◌, ◌%◌, ◌^◌, min, Bool, true, not, ◌&&◌, List, [], ◌∷◌, length, take, ◌==◌, nat_lt, if◌then◌else◌}
+use Rattle.std.specs.Prelude.{ℕ, ◌+◌, ◌*◌, ◌%◌, ◌^◌, min, Bool, true, not, ◌&&◌, List, [], ◌∷◌, length, take, ◌==◌, nat_lt, Ok, Err, if◌then◌else◌}
 use Rattle.plan.specs.Limits.{most_records, record_bytes}
 use Rattle.plan.specs.APlan.{plan_of}
-use Rattle.plan.specs.ReplyNumbers.{read_of}
+use Rattle.plan.specs.ReplyNumbers.{Reading, read_of}
 use Rattle.plan.specs.declared.Plan.{Plan}
-use Rattle.plan.specs.declared.Reading.{Reading}
 use Rattle.board.specs.Boards.{fresh}
 use Rattle.board.specs.Events.{taken, take_of}
 use Rattle.board.specs.declared.Taken.{Taken}
@@ -61,9 +60,8 @@ abbrev pub read_front : ℕ → List ℕ → Reading
 read_front n buffer = read_of (take (min (shown n) (length buffer)) buffer)
 
 abbrev pub begins : Sheet → Reading → Sheet
-begins s r =
-    if r.number == 0 then turned s playing begun r.plan s.taken
-    else turned s over refused s.plan (taken r.number r.place s.taken.board)
+begins s (Ok p) = turned s playing begun p s.taken
+begins s (Err x) = turned s over refused s.plan (taken x.number x.place s.taken.board)
 
 -- the plan part has ended: its plan, or its refusal
 abbrev pub begun_of : Sheet → List ℕ → Sheet

@@ -6,7 +6,7 @@ ghost use Rattle.stream.specs.Sheets.{start, turned, is_mark, begun_of, longer, 
 
 use crate::front::read_front;
 use board::Taken;
-use plan::{ACCEPTED, Plan, RECORD_BYTES};
+use plan::{ACCEPTED, Plan, RECORD_BYTES, empty};
 use std::num::wrapping_add_u64;
 
 // Still in the plan part; among the events; over, since the plan is refused.
@@ -59,8 +59,7 @@ impl Sheet {
     pub fn new() -> Sheet
         ensures { result ≡ start }
     {
-        let reading = plan_file::read(b"");
-        let plan = reading.plan;
+        let plan = empty(0);
         let board = board::fresh();
         let taken = Taken {
             number: ACCEPTED,
@@ -97,20 +96,20 @@ impl Sheet {
     fn begun(self, front: &[u8]) -> Sheet
         ensures { result ≡ begun_of self front.now }
     {
-        let reading = read_front(self.length, front);
         let before = self.taken;
-        if reading.number == ACCEPTED {
-            let plan = reading.plan;
-            return self.turned(PLAYING, BEGUN, plan, before);
+        match read_front(self.length, front) {
+            Ok(plan) => self.turned(PLAYING, BEGUN, plan, before),
+            Err(refusal) => {
+                let plan = self.plan;
+                let board = before.board;
+                let taken = Taken {
+                    number: refusal.number,
+                    place: refusal.place,
+                    board: board,
+                };
+                self.turned(OVER, REFUSED, plan, taken)
+            }
         }
-        let plan = self.plan;
-        let board = before.board;
-        let taken = Taken {
-            number: reading.number,
-            place: reading.place,
-            board: board,
-        };
-        self.turned(OVER, REFUSED, plan, taken)
     }
 
     // So many bytes more of the plan part.

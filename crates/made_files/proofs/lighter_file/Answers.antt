@@ -2,8 +2,8 @@
 use Rattle.made_files.proofs.OfPlans.{lighter_unread, lighter_made}
 use Rattle.made_files.proofs.lighter_file.Goals as goal
 
-pub returns-then-reading-ne-ACCEPTED : goal.returns-then-reading-ne-ACCEPTED
-returns-then-reading-ne-ACCEPTED c = lighter_unread _ _ _ _ c.read-reading.ensures _ c.if-reading-ne-ACCEPTED.true c.answer.ensures
+pub returns-in_err-refusal : goal.returns-in_err-refusal
+returns-in_err-refusal c = lighter_unread _ _ _ _ c.in_err-refusal.ensures _ c.answer.ensures
 
-pub returns : goal.returns
-returns c = let p = c.put_lighter.ensures in lighter_made _ _ _ _ c.read-reading.ensures _ _ _ _ c.if-reading-ne-ACCEPTED.false c.lighter_of.ensures p.reply p.bytes p.dropped
+pub returns-in_ok-plan : goal.returns-in_ok-plan
+returns-in_ok-plan c = let p = c.put_lighter.ensures in lighter_made _ _ _ _ c.in_ok-plan.ensures _ _ _ _ c.lighter_of.ensures p.reply p.bytes p.dropped

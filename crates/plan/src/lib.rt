@@ -65,7 +65,7 @@ pub fn empty(any: usize) -> Plan
 pub fn refuse(number: u32, place: u32) -> Result<Plan, Refusal>
     ensures { result ≡ refused (refusal number place) }
 {
-    Err(answer(number, place))
+    Err(Refusal::new(number, place))
 }
 
 // The plan that was read, for who goes on with one either way: where reading refused, no record of the file is shown.

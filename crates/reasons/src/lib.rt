@@ -40,16 +40,7 @@ fn piece_of(length: Option<Length>) -> Piece
 fn length_line(word: u64, length: Option<Length>) -> Line
     ensures { result ≡ length_line word length }
 {
-    line_of(
-        Piece::Name(word),
-        [
-            piece_of(length),
-            Piece::Name(0),
-            Piece::Name(0),
-            Piece::Name(0),
-        ],
-        1,
-    )
+    line_of(Piece::Name(word), &[piece_of(length)])
 }
 
 // `drive A C MINUTES`.
@@ -58,13 +49,11 @@ pub fn drive_line(drive: Drive) -> Line
 {
     line_of(
         Piece::Name(DRIVE),
-        [
+        &[
             Piece::Number(drive.from),
             Piece::Number(drive.to),
             Piece::Number(drive.minutes),
-            Piece::Name(0),
         ],
-        3,
     )
 }
 
@@ -75,13 +64,12 @@ pub fn step_line(step: Step) -> Line
     let length = piece_of(Some(length_of(step.up, step.down)));
     line_of(
         Piece::Name(STEP),
-        [
+        &[
             Piece::Number(step.row as u64),
             Piece::Number(step.from as u64),
             Piece::Number(step.to as u64),
             length,
         ],
-        4,
     )
 }
 

@@ -8,7 +8,7 @@ ghost use Rattle.kept.specs.Rooms.{freed_at, bounded_at, running_at, remade_at, 
 use events::Event;
 use kept_rows::{CALLS, CLOCK, DONE, KEPT, LAST, MINUTES, RUNS, bound, free, place, run_now, sum};
 use neighbours::{LIST, entries};
-use points::{MOST, first, with, without};
+use points::{MOST, members, with};
 use rows::{SHEET, row_at};
 
 // Every record that z sets free.
@@ -119,11 +119,8 @@ fn do_set(
 )
     ensures { kept.new ≡ all_done_by rows.now into.now out.now ends.now t n (members_of set) kept.old }
 {
-    let mut rest = set;
-    while rest != 0 {
-        let p = first(rest);
+    for p in members(set) {
         do_point(rows, into, out, ends, &mut *kept, p, t, n);
-        rest = without(rest, p);
     }
 }
 

@@ -4,7 +4,7 @@ use mathlib.Core.List.{List}
 use Prim.Native.Nat.{ℕ}
 use lib.Dec.{eqb}
 use borrow.Author.Tests.{eq-eqb, ne_eqb}
-use Rattle.std.specs.Prelude.{if◌then◌else◌}
+use Rattle.std.specs.Prelude.{if◌then◌else◌, Ok, Err}
 use Rattle.plan.specs.ReplyNumbers.{refusal, read_of, write_of, written_of}
 use Rattle.plan.specs.declared.Reading.{Reading}
 use Rattle.plan.specs.declared.Refusal.{Refusal}
@@ -12,7 +12,7 @@ use Rattle.lighter.specs.Lighter.{LighterOf}
 use Rattle.lighter.specs.declared.Lighter.{Lighter}
 use Rattle.halves.specs.Answers.{answer_of, answer_with}
 use Rattle.made_files.specs.Made.{filed_of, file_left, filed_answer, plan_in, dropped_left, LighterWritten}
-use Rattle.made_files.specs.Made.LighterWritten.{unread, made}
+use Rattle.made_files.specs.Made.LighterWritten.{unread, refused, made}
 
 module _ (x : Reading) (out : List ℕ) where
   pub filed : x.number ≡ 0 → write_of x.plan out ≡ filed_of x out
@@ -51,6 +51,9 @@ module _ (s out room : List ℕ) (x : Reading) (e : x ≡ read_of s) where
       let a' : r ≡ answer_of (read_of s).number (read_of s).place = a ∙ ap (λ (y : Reading). answer_of y.number y.place) e in
       rw a' (unread (rw e at h))
 
-  pub lighter_made : (y : Lighter) (r : ℕ) (out' room' : List ℕ) → x.number ≡ 0 → LighterOf x.plan y
+  pub lighter_refused : (y : Refusal) (r : ℕ) → x.number ≡ 0 → LighterOf x.plan (Err y) → r ≡ answer_of y.number y.place → LighterWritten s out room r out room
+  lighter_refused y r h l a = rw a (refused (rw e at h) (rw e at l))
+
+  pub lighter_made : (y : Lighter) (r : ℕ) (out' room' : List ℕ) → x.number ≡ 0 → LighterOf x.plan (Ok y)
       → r ≡ filed_answer (plan_in y) out → out' ≡ file_left (plan_in y) out → room' ≡ dropped_left y out room → LighterWritten s out room r out' room'
   lighter_made y r out' room' h l er eo ed = rw (er, eo, ed) (made (rw e at h) (rw e at l))

@@ -1,6 +1,6 @@
 -- The plans that are made of a plan file, given as its bytes s, or of a text, and what is left in a buffer that their files are written into.
 -- Assumes nothing.
-use Rattle.std.specs.Prelude.{◌≡◌, ◌≢◌, List, ℕ, eqb, if◌then◌else◌}
+use Rattle.std.specs.Prelude.{◌≡◌, ◌≢◌, List, ℕ, eqb, if◌then◌else◌, Ok, Err}
 use Rattle.plan.specs.ReplyNumbers.{refusal, read_of, write_of, written_of}
 use Rattle.plan.specs.declared.Reading.{Reading}
 use Rattle.plan.specs.declared.Refusal.{Refusal}
@@ -25,7 +25,7 @@ import_text s = imported_as (import_of s)
 
 -- a lighter plan as a plan that was made
 abbrev pub plan_in : Lighter → Reading
-plan_in x = record { number = x.number; place = x.place; plan = x.plan }
+plan_in x = record { number = 0; place = 0; plan = x.plan }
 
 -- a plan that was made or refused, on its way into a buffer: its own refusal, or what writing its file answers
 unfoldable pub filed_of : Reading → List ℕ → Refusal
@@ -46,5 +46,6 @@ dropped_left x out room = if eqb (filed_of (plan_in x) out).number 0 then x.drop
 -- the lighter plan x that the rules give: what is answered, and what is left in the buffer and in the room
 pub data LighterWritten (s out room : List ℕ) : ℕ → List ℕ → List ℕ → Type 0 where
   unread : (read_of s).number ≢ 0 → LighterWritten s out room (answer_of (read_of s).number (read_of s).place) out room
-  made : {x : Lighter} → (read_of s).number ≡ 0 → LighterOf (read_of s).plan x
+  refused : {r : Refusal} → (read_of s).number ≡ 0 → LighterOf (read_of s).plan (Err r) → LighterWritten s out room (answer_of r.number r.place) out room
+  made : {x : Lighter} → (read_of s).number ≡ 0 → LighterOf (read_of s).plan (Ok x)
       → LighterWritten s out room (filed_answer (plan_in x) out) (file_left (plan_in x) out) (dropped_left x out room)

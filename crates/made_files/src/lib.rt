@@ -81,8 +81,8 @@ fn put_lighter(made: Lighter, out: &mut [u8], room: &mut [u32; MOST_RECORDS]) ->
 {
     let plan = made.plan;
     let reading = Reading {
-        number: made.number,
-        place: made.place,
+        number: ACCEPTED,
+        place: 0,
         plan: plan,
     };
     let filed = file_plan(reading, out);
@@ -99,5 +99,8 @@ pub fn lighter_file(file: &[u8], out: &mut [u8], room: &mut [u32; MOST_RECORDS])
     if reading.number != ACCEPTED {
         return answer(reading.number, reading.place);
     }
-    put_lighter(lighter_of(reading.plan), out, room)
+    match lighter_of(reading.plan) {
+        Ok(made) => put_lighter(made, out, room),
+        Err(refusal) => answer(refusal.number, refusal.place),
+    }
 }

@@ -10,7 +10,7 @@ ghost use Rattle.rows.specs.Sheet.{width};
 ghost use Rattle.neighbours.specs.Lists.{buckets, list_room, key_of, key_at, start_of, onward_of, Indexed};
 
 use plan::{MOST_POINTS, MOST_RECORDS};
-use rows::{SHEET, index, word};
+use rows::SHEET;
 
 // A place for each point.
 pub const SIDE: usize = MOST_POINTS as usize;
@@ -46,7 +46,7 @@ fn pick(so: bool, a: usize, b: usize) -> usize
 fn key(least: u64, kind: u64, point: u64) -> usize
     ensures { (result ≡ key_of least kind point) × (result < buckets) }
 {
-    pick(kind < least, SIDE, index(point % MANY))
+    pick(kind < least, SIDE, (point % MANY) as usize)
 }
 
 fn key_at(rows: &[u32; SHEET], least: u64, field: usize, i: usize) -> usize
@@ -54,7 +54,7 @@ fn key_at(rows: &[u32; SHEET], least: u64, field: usize, i: usize) -> usize
     ensures { (result ≡ key_at rows.now least field i) × (result < buckets) }
 {
     let at = i * WIDTH;
-    key(least, word(rows[at]), word(rows[at + field]))
+    key(least, u64::from(rows[at]), u64::from(rows[at + field]))
 }
 
 fn clear(list: &mut [u16; LIST])

@@ -2,4 +2,4 @@
 use Rattle.neighbours.proofs.key_at.Goals as goal
 
 pub returns : goal.returns
-returns c = rw (c.word.ensures, c.word-2.ensures) at c.key.ensures
+returns c = rw (c.from.ensures, c.from-2.ensures) at c.key.ensures

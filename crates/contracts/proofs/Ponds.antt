@@ -12,17 +12,24 @@ use Rattle.lighter.proofs.Theorems.{one_lighter}
 use Rattle.halves.specs.Answers.{answer_of}
 use Rattle.hulls.specs.Rooms.{links_in, links_room, reply_room}
 use Rattle.made_files.specs.Made.{filed_answer, file_left, plan_in, dropped_left, LighterWritten}
-use Rattle.made_files.specs.Made.LighterWritten.{unread, made}
+use Rattle.made_files.specs.Made.LighterWritten.{unread, refused, made}
 use Rattle.day_rooms.specs.Days.{FilledFrom, BeginsFrom, TakesFrom, RepliesFrom}
 use Rattle.contracts.proofs.Begins.{SameRooms, one_links, filled_same}
 use Rattle.contracts.proofs.Rooms.{one_reply, one_taken, one_room}
 
 pub one_lightened : (s out room : List ℕ) {r r' : ℕ} {o o' n n' : List ℕ} → LighterWritten s out room r o n → LighterWritten s out room r' o' n' → (r ≡ r') × (o ≡ o') × (n ≡ n')
 one_lightened s out room (unread h) (unread k) = (refl, refl, refl)
+one_lightened s out room (unread h) (refused e l) = absurd (h e)
 one_lightened s out room (unread h) (made e l) = absurd (h e)
+one_lightened s out room (refused e l) (unread h) = absurd (h e)
+one_lightened s out room (refused {r = x} e l) (refused {r = y} e' l') =
+    let q : x ≡ y = cc (one_lighter l l') in
+    (ap (λ (w : Refusal). answer_of w.number w.place) q, refl, refl)
+one_lightened s out room (refused e l) (made e' l') = absurd (cc (one_lighter l l'))
 one_lightened s out room (made e l) (unread h) = absurd (h e)
-one_lightened s out room (made e l) (made e' l') =
-    let q = one_lighter l l' in
+one_lightened s out room (made e l) (refused e' l') = absurd (cc (one_lighter l l'))
+one_lightened s out room (made {x = x} e l) (made {x = y} e' l') =
+    let q : x ≡ y = cc (one_lighter l l') in
     (λ i. filed_answer (plan_in (q i)) out, λ i. file_left (plan_in (q i)) out, λ i. dropped_left (q i) out room)
 
 pub one_take : (links rows into out ends kept s : List ℕ) (r r' : ℕ) (kept' kept'' : List ℕ) → TakesFrom links rows into out ends kept s r kept' → TakesFrom links rows into out ends kept s r' kept''

@@ -37,11 +37,10 @@ fn fits(
     if most < all[x * SIDE + y] {
         return false;
     }
-    match judge_by(&*all, durations, sheet, m, n, &mut *ways) {
-        Finding::Good => true,
-        Finding::Cycle => false,
-        Finding::Pair(_, _) => false,
-    }
+    matches!(
+        judge_by(&*all, durations, sheet, m, n, &mut *ways),
+        Finding::Good
+    )
 }
 
 // Whether each projection is, in order up to the first that is not, in the same two tables.

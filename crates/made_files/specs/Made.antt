@@ -24,7 +24,7 @@ import_text s = imported_as (import_of s)
 
 -- a lighter plan as a plan that was made
 abbrev pub plan_in : Lighter → Reading
-plan_in x = if eqb x.number 0 then Ok x.plan else refused (refusal x.number x.place)
+plan_in x = Ok x.plan
 
 -- a plan that was made or refused, on its way into a buffer: its own refusal, or what writing its file answers
 unfoldable pub filed_of : Reading → List ℕ → Refusal
@@ -47,5 +47,6 @@ dropped_left x out room = if eqb (filed_of (plan_in x) out).number 0 then x.drop
 -- the lighter plan x that the rules give: what is answered, and what is left in the buffer and in the room
 pub data LighterWritten (s out room : List ℕ) : ℕ → List ℕ → List ℕ → Type 0 where
   unread : number_in (read_of s) ≢ 0 → LighterWritten s out room (answer_of (number_in (read_of s)) (place_in (read_of s))) out room
-  made : {x : Lighter} → number_in (read_of s) ≡ 0 → LighterOf (plan_read (read_of s)) x
+  refused : {r : Refusal} → number_in (read_of s) ≡ 0 → LighterOf (plan_read (read_of s)) (Err r) → LighterWritten s out room (answer_of r.number r.place) out room
+  made : {x : Lighter} → number_in (read_of s) ≡ 0 → LighterOf (plan_read (read_of s)) (Ok x)
       → LighterWritten s out room (filed_answer (plan_in x) out) (file_left (plan_in x) out) (dropped_left x out room)

@@ -76,25 +76,16 @@ fn put_dropped(so: bool, numbers: [u32; MOST_RECORDS], room: &mut [u32; MOST_REC
     }
 }
 
-fn lighter_as(made: Lighter) -> Result<Plan, Refusal>
-    ensures { result ≡ plan_in made }
-{
-    if made.number != ACCEPTED {
-        return refuse(made.number, made.place);
-    }
-    Ok(made.plan)
-}
-
 fn put_lighter(made: Lighter, out: &mut [u8], room: &mut [u32; MOST_RECORDS]) -> u64
     ensures reply { result ≡ filed_answer (plan_in made) out.old }
     ensures bytes { out.new ≡ file_left (plan_in made) out.old }
     ensures dropped { room.new ≡ dropped_left made out.old room.old }
 {
-    let plan = lighter_as(made);
-    let filed = file_plan(plan, out);
+    let plan = made.plan;
+    let filed = write(plan, out);
     let numbers = made.dropped;
     put_dropped(filed.number == ACCEPTED, numbers, room);
-    answer_with(filed.number, filed.place, count_in(plan))
+    answer_with(filed.number, filed.place, plan.count)
 }
 
 // The lighter plan's file, and the numbers of the records that went.
@@ -102,7 +93,10 @@ pub fn lighter_file(file: &[u8], out: &mut [u8], room: &mut [u32; MOST_RECORDS])
     ensures { LighterWritten file.now out.old room.old result out.new room.new }
 {
     match read(file) {
-        Ok(plan) => put_lighter(lighter_of(plan), out, room),
+        Ok(plan) => match lighter_of(plan) {
+            Ok(made) => put_lighter(made, out, room),
+            Err(refusal) => answer(refusal.number, refusal.place),
+        },
         Err(refusal) => answer(refusal.number, refusal.place),
     }
 }

@@ -1,5 +1,4 @@
 -- `dropping::all_fit` meets its contract. Assumes nothing.
-use Prim.Native.Nat.{◌-◌}
 use Rattle.dropping.proofs.Fitting.{Sofar}
 use Rattle.dropping.proofs.all_fit.Given as goal
 

@@ -1,6 +1,5 @@
 -- `lighter::drop_all` meets its contract. Assumes nothing.
 use mathlib.Core.Path.{◌≡◌}
-use Prim.Native.Nat.{◌-◌}
 use lib.ListN.{length}
 use Rattle.plan.specs.APlan.{records_of}
 use Rattle.lighter.proofs.Going.{Going}

@@ -1,5 +1,4 @@
 -- `lighter::without` meets its contract. Assumes nothing.
-use Prim.Native.Nat.{◌-◌}
 use Rattle.lighter.proofs.Copying.{Copied}
 use Rattle.lighter.proofs.without.Given as goal
 

@@ -7,7 +7,7 @@ use Rattle.plan.specs.Limits.{most_points}
 use Rattle.kept.specs.Rooms.{done_by, all_done_by, points_of}
 
 -- what is left gives the whole answer
-module _ (rows into out ends : List ℕ) (t n : ℕ) {left : List ℕ} {kept whole : List ℕ} (so_far : all_done_by rows into out ends t n left kept ≡ whole) where
+module _ (rows into out ends : List ℕ) (t n : ℕ) {left : List ℕ} (kept : List ℕ) {whole : List ℕ} (so_far : all_done_by rows into out ends t n left kept ≡ whole) where
   pub set_turn : (p : ℕ) (rest : List ℕ) → left ≡ p ∷ rest → all_done_by rows into out ends t n rest (done_by rows into out ends t n p kept) ≡ whole
   unfolding all_done_by
   set_turn p rest e = rw e at so_far

@@ -127,7 +127,7 @@ pub fn judge(plan: Plan, board: Board, list: &[Bound]) -> Judged
 fn listed(count: usize) -> usize
     ensures { result ≡ min count list_room }
 {
-    if count < LIST_ROOM { count } else { LIST_ROOM }
+    count.min(LIST_ROOM)
 }
 
 // The same of the first `count` bounds of a list by value: it lends them to `judge`.

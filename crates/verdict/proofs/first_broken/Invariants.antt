@@ -15,6 +15,3 @@ invariant-loop-i l =
     (l.i ≤ l.n) × (l.n ≡ min l.plan.count most_records) × (length l.plan.records ≡ most_records) × (length l.minutes ≡ most_points) × (length l.ends ≡ most_points) × ((check_of l.plan).number ≡ 0)
     × ((p : ℕ) → p < most_points → get_or l.ends p no_end ≡ end_of (records_of l.plan) p)
     × (first_broken (records_of l.plan) (day_of l.minutes) l.i (drop l.i (records_of l.plan)) ≡ first_broken (records_of l.plan) (day_of l.minutes) 0 (records_of l.plan))
-
-abbrev pub decreases-loop-i : goal.decreases-loop-i
-decreases-loop-i l = l.n - l.i

@@ -42,13 +42,11 @@ pub fn drive_line(drive: Drive) -> Line
 {
     line_of(
         Piece::Name(DRIVE),
-        [
+        &[
             Piece::Number(drive.from),
             Piece::Number(drive.to),
             Piece::Number(drive.minutes),
-            Piece::Name(0),
         ],
-        3,
     )
 }
 
@@ -59,13 +57,12 @@ pub fn step_line(step: Step) -> Line
     let length = piece_of(length_of(step.up, step.down));
     line_of(
         Piece::Name(STEP),
-        [
+        &[
             Piece::Number(step.row as u64),
             Piece::Number(step.from as u64),
             Piece::Number(step.to as u64),
             length,
         ],
-        4,
     )
 }
 
@@ -73,34 +70,19 @@ pub fn step_line(step: Step) -> Line
 pub fn shortest_line(length: Length) -> Line
     ensures { result ≡ shortest_line length }
 {
-    let piece = piece_of(length);
-    line_of(
-        Piece::Name(SHORTEST),
-        [piece, Piece::Name(0), Piece::Name(0), Piece::Name(0)],
-        1,
-    )
+    line_of(Piece::Name(SHORTEST), &[piece_of(length)])
 }
 
 // `allowed LENGTH`, or `allowed none`.
 pub fn allowed_line(length: Length) -> Line
     ensures { result ≡ allowed_line length }
 {
-    let piece = piece_of(length);
-    line_of(
-        Piece::Name(ALLOWED),
-        [piece, Piece::Name(0), Piece::Name(0), Piece::Name(0)],
-        1,
-    )
+    line_of(Piece::Name(ALLOWED), &[piece_of(length)])
 }
 
 // `sum LENGTH`.
 pub fn sum_line(length: Length) -> Line
     ensures { result ≡ sum_line length }
 {
-    let piece = piece_of(length);
-    line_of(
-        Piece::Name(SUM),
-        [piece, Piece::Name(0), Piece::Name(0), Piece::Name(0)],
-        1,
-    )
+    line_of(Piece::Name(SUM), &[piece_of(length)])
 }

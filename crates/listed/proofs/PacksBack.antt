@@ -2,7 +2,6 @@
 use mathlib.Core.Path.{◌≡◌, refl, sym, ap, ◌∙◌}
 use mathlib.Core.List.{List, [], ◌∷◌, ◌++◌, map, append_assoc}
 use Prim.Native.Nat.{ℕ, suc, ◌*◌, ◌≤◌}
-use native.Mathlib.Omega.{arith}
 use lib.ListN.{length, drop, length-map}
 use borrow.Author.Tests.{le-ltb}
 use Rattle.std.specs.Prelude.{Ok}
@@ -12,7 +11,7 @@ use Rattle.records.specs.Limits.{record_bytes}
 use Rattle.records.specs.Bytes.{all_bytes}
 use Rattle.records.specs.Held.{Held, plain}
 use Rattle.records.specs.declared.Record.{Record}
-use Rattle.rules.proofs.Passed.{Passed, passed}
+use Rattle.rules.proofs.Passed.{passed}
 use Rattle.plan.specs.APlan.{records_of}
 use Rattle.plan.specs.ReplyNumbers.{after, number_of, first_bad, first_bad_with, check_of, read_of, number_in, plan_in}
 use Rattle.plan.specs.declared.Refusal.{Refusal}

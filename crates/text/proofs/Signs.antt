@@ -1,6 +1,5 @@
 -- A signed number, from what it adds and what it takes away. Assumes nothing.
 use mathlib.Core.Path.{◌≡◌, refl}
-use Prim.Native.Nat.{ℕ}
 use native.Mathlib.Omega.{arith}
 use lib.IntN.{ℤ, pos, negsuc}
 use Rattle.numbers.specs.Numbers.{gap_of}

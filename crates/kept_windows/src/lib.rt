@@ -15,7 +15,7 @@ ghost use Rattle.kept_windows.specs.Answers.{open_at, low_at, shut_by, shut_at, 
 use kept::{CLOCK, DONE, HIGHS, KEPT, LOWS, RUNS, is_holding, place};
 use lowhigh::{NEVER, with_if};
 use neighbours::{LIST, SIDE, entries};
-use points::{MOST, first, has, without};
+use points::{MOST, has, members};
 use rows::{Row, SHEET, row_at};
 use windows::Windows;
 
@@ -43,11 +43,8 @@ fn high_of(kept: &[u32; KEPT], set: u32) -> u32
     ensures { result ≡ least_at (drop highs_at kept.now) (members_of set) }
 {
     let mut least = NEVER;
-    let mut rest = set;
-    while rest != 0 {
-        let p = first(rest);
-        least = least.min(kept[HIGHS + p as usize]);
-        rest = without(rest, p);
+    for p in members(set) {
+        least = least.min(kept[HIGHS + usize::from(p)]);
     }
     least
 }

@@ -6,7 +6,7 @@
 
 ghost use Rattle.std.specs.Prelude.{◌≡◌, min, take};
 ghost use Rattle.lent.specs.Judgement.{judge_of};
-ghost use Rattle.lent.specs.Inside.{begun_of, goes_on, answer_after, judged_after, list_room};
+ghost use Rattle.lent.specs.Inside.{begun_of, is_refused, answer_after, judged_after, list_room};
 
 use board::{Board, minute_of};
 pub use bounds::Bound;
@@ -54,15 +54,13 @@ fn begun(plan: Plan, board: Board) -> Judging
     }
 }
 
-// The bound at the place i is still to be looked at: there is one, and nothing is refused.
-fn goes_on(past: Judging, i: usize, length: usize) -> bool
-    ensures { result ≡ goes_on past.answer i length }
+// A refusal stays, whatever bounds come.
+fn is_refused(answer: Judged) -> bool
+    ensures { result ≡ is_refused answer }
 {
-    let answer = past.answer;
     match answer {
-        Judged::Refused(_, _) => false,
-        Judged::Kept => i < length,
-        Judged::Broken(_) => i < length,
+        Judged::Refused(_, _) => true,
+        Judged::Kept | Judged::Broken(_) => false,
     }
 }
 
@@ -115,10 +113,11 @@ pub fn judge(plan: Plan, board: Board, list: &[Bound]) -> Judged
     ensures { result ≡ judge_of plan board list.now }
 {
     let mut so_far = begun(plan, board);
-    let mut i: usize = 0;
-    while goes_on(so_far, i, list.len()) {
-        so_far = judged_after(so_far, i, list[i]);
-        i += 1;
+    for (i, bound) in list.iter().enumerate() {
+        if is_refused(so_far.answer) {
+            break;
+        }
+        so_far = judged_after(so_far, i, *bound);
     }
     so_far.answer
 }

@@ -1,11 +1,12 @@
 -- The plans that are made of a plan file, given as its bytes s, or of a text, and what is left in a buffer that their files are written into.
 -- Assumes nothing.
-use Rattle.std.specs.Prelude.{◌≡◌, ◌≢◌, List, ℕ, eqb, if◌then◌else◌}
-use Rattle.plan.specs.ReplyNumbers.{refusal, read_of, write_of, written_of}
+use Rattle.std.specs.Prelude.{◌≡◌, ◌≢◌, List, Result, Ok, Err, ℕ, eqb, if◌then◌else◌}
+use Rattle.plan.specs.ReplyNumbers.{refusal, refused, read_of, write_of, written_of}
 use Rattle.plan.specs.declared.Reading.{Reading}
 use Rattle.plan.specs.declared.Refusal.{Refusal}
 use Rattle.office.specs.Sheets.{import_of}
-use Rattle.office.specs.declared.Imported.{Imported}
+use Rattle.office.specs.declared.Refused.{Refused}
+use Rattle.plan.specs.declared.Plan.{Plan}
 use Rattle.closure.specs.Closing.{close_of}
 use Rattle.lighter.specs.Lighter.{LighterOf}
 use Rattle.lighter.specs.declared.Lighter.{Lighter}
@@ -17,8 +18,9 @@ abbrev pub close_file : List ℕ → Reading
 close_file s = of_file s close_of (λ number place. read_of s)
 
 -- an imported plan; the line of a refusal as far as a number of 32 bits goes
-abbrev pub imported_as : Imported → Reading
-imported_as x = record { number = x.number; place = half_of x.line; plan = x.plan }
+abbrev pub imported_as : Result Plan Refused → Reading
+imported_as (Ok p) = record { number = 0; place = 0; plan = p }
+imported_as (Err x) = refused (refusal x.number (half_of x.line))
 
 abbrev pub import_text : List ℕ → Reading
 import_text s = imported_as (import_of s)

@@ -9,8 +9,8 @@ ghost use Rattle.made_files.specs.Made.{imported_as, import_text, close_file, fi
 use closure::close;
 use halves::{answer, answer_with, half};
 use lighter::{Lighter, lighter_of};
-use office::{Imported, import};
-use plan::{ACCEPTED, MOST_RECORDS, Reading, Refusal};
+use office::{Refused, import};
+use plan::{ACCEPTED, MOST_RECORDS, Plan, Reading, Refusal, refuse};
 use plan_file::{read, write};
 
 // A plan that was made, written into the buffer; one that was refused leaves it as it was.
@@ -36,14 +36,16 @@ pub fn put_plan(made: Reading, out: &mut [u8]) -> u64
     answer_with(filed.number, filed.place, made.plan.count)
 }
 
-fn imported_as(text: Imported) -> Reading
+fn imported_as(text: Result<Plan, Refused>) -> Reading
     ensures { result ≡ imported_as text }
 {
-    let plan = text.plan;
-    Reading {
-        number: text.number,
-        place: half(text.line),
-        plan: plan,
+    match text {
+        Ok(plan) => Reading {
+            number: ACCEPTED,
+            place: 0,
+            plan,
+        },
+        Err(refused) => refuse(refused.number, half(refused.line)),
     }
 }
 

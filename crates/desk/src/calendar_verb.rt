@@ -5,7 +5,6 @@ use crate::sheet_in::sheet_in;
 use crate::{argument, usage};
 use calendar::{MOST_TEXT, write_calendar};
 use dates::Stamp;
-use plan::ACCEPTED;
 use stream::{PLAYING, Sheet, within};
 
 // Word i behind the program's name as a number; none where it is no number.
@@ -21,12 +20,13 @@ fn write(rt: HostRuntime, sheet: Sheet, origin: Stamp) {
     let taken = sheet.taken;
     let board = taken.board;
     let mut room = [0u8; MOST_TEXT];
-    let answer = write_calendar(plan, board, origin, &mut room);
-    if answer.number != ACCEPTED {
-        return say(rt, Out::Error, answers::calendar_refused(answer.number));
+    match write_calendar(plan, board, origin, &mut room) {
+        Ok(length) => {
+            let n = within(length, &room);
+            put(rt, Out::Output, &room[..n]);
+        }
+        Err(refusal) => say(rt, Out::Error, answers::calendar_refused(refusal.number)),
     }
-    let n = within(answer.length, &room);
-    put(rt, Out::Output, &room[..n]);
 }
 
 // The calendar of the sheet that standard input holds.

@@ -4,8 +4,8 @@ use crate::input::piece_room;
 use crate::made::write_plan;
 use crate::say::{Out, say};
 use handles::read_full;
-use office::{Feeding, Imported, begin, feed, finish};
-use plan::ACCEPTED;
+use office::{Feeding, Refused, begin, feed, finish};
+use plan::Plan;
 use std::io::Stdin;
 
 // What is known after all of the input.
@@ -21,16 +21,17 @@ fn fed(input: Stdin, room: &mut [u8]) -> Feeding {
     state
 }
 
-fn imported(input: Stdin) -> Imported {
+fn imported(input: Stdin) -> Result<Plan, Refused> {
     let mut room = piece_room();
     finish(fed(input, &mut room))
 }
 
 pub(crate) fn run(rt: HostRuntime) {
-    let answer = imported(rt.stdin());
-    if answer.number != ACCEPTED {
-        let line = answers::import_refused(answer.number, answer.line as u64);
-        return say(rt, Out::Error, line);
+    match imported(rt.stdin()) {
+        Ok(plan) => write_plan(rt, plan),
+        Err(refused) => {
+            let line = answers::import_refused(refused.number, refused.line as u64);
+            say(rt, Out::Error, line)
+        }
     }
-    write_plan(rt, answer.plan)
 }

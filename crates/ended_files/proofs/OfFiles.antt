@@ -17,12 +17,9 @@ use Rattle.links.specs.Inside.{LinksOf}
 use Rattle.links.specs.declared.Links.{Links}
 use Rattle.codes.specs.Ponds.{ForEach, pond_at}
 use Rattle.calendar.specs.Inside.{SheetOf}
-use Rattle.calendar.specs.declared.Calendar.{Calendar}
 use Rattle.board.specs.declared.Board.{Board}
-use Rattle.halves.specs.Answers.{answer_with, half_of}
 use Rattle.halves.specs.OfFile.{of_file}
 use Rattle.halves.proofs.OfFile.{of_read}
-use Rattle.ended_files.specs.Ended.{calendar_answer}
 
 -- a plan that was read is accepted
 pub read_accepted : (s : List ℕ) (p : Plan) → Ok p ≡ read_of s → (check_of p).number ≡ 0
@@ -46,7 +43,3 @@ sheet_read s p e l ponds = record { ok = read_accepted s p e; full = read_full s
 -- and what is said of the plan and a board b, which is the board k
 pub by_board : {A : Type 0} (s : List ℕ) (f : Plan → Board → A) (g : ℕ → ℕ → A) (p : Plan) → Ok p ≡ read_of s → (b k : Board) → b ≡ k → (r : A) → r ≡ f p b → r ≡ of_file s (λ p. f p k) g
 by_board s f g p e b k eb r er = er ∙ ap (f p) eb ∙ of_read s (λ p. f p k) g p e
-
--- a calendar's answer, where x is the calendar y
-pub calendar_answer_lem : (x y : Calendar) (h r : ℕ) → x ≡ y → h ≡ half_of x.length → r ≡ answer_with x.number x.place h → r ≡ calendar_answer y
-calendar_answer_lem x y h r e eh er = er ∙ ap (answer_with x.number x.place) eh ∙ ap (λ (z : Calendar). answer_with z.number z.place (half_of z.length)) e

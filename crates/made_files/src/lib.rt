@@ -10,7 +10,7 @@ ghost use Rattle.made_files.specs.Made.{imported_as, import_text, close_file, fi
 use closure::close;
 use halves::{answer, answer_with, half};
 use lighter::{Lighter, lighter_of};
-use office::{Imported, import};
+use office::{Refused, import};
 use plan::{ACCEPTED, MOST_RECORDS, Plan, Refusal, refuse};
 use plan_file::{read, write};
 
@@ -44,13 +44,13 @@ pub fn put_plan(made: Result<Plan, Refusal>, out: &mut [u8]) -> u64
     answer_with(filed.number, filed.place, count_in(made))
 }
 
-fn imported_as(text: Imported) -> Result<Plan, Refusal>
+fn imported_as(text: Result<Plan, Refused>) -> Result<Plan, Refusal>
     ensures { result ≡ imported_as text }
 {
-    if text.number != ACCEPTED {
-        return refuse(text.number, half(text.line));
+    match text {
+        Ok(plan) => Ok(plan),
+        Err(refused) => refuse(refused.number, half(refused.line)),
     }
-    Ok(text.plan)
 }
 
 // The plan that a comma-separated text says.

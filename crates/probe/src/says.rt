@@ -18,9 +18,7 @@ pub fn within(n: usize, bytes: &[u8]) -> usize
 // A line of four numbers.
 pub fn say(out: Stdout, a: u32, b: u32, c: u32, d: u32) {
     let line = text::numbers_line(a as u64, b, c, d);
-    let bytes = line.bytes;
-    let n = within(line.len, &bytes);
-    write_all(out, &bytes[..n]);
+    write_all(out, line.text());
 }
 
 const PRIME: u32 = 16777213;

@@ -1,9 +1,11 @@
 -- `ended_files::calendar_file` meets its contract. Assumes nothing.
 use mathlib.Core.Path.{refl}
 use Prim.Native.Nat.{ℕ}
+use Rattle.std.specs.Prelude.{Err}
+use Rattle.plan.specs.ReplyNumbers.{refusal}
 use Rattle.plan.specs.declared.Plan.{Plan}
 use Rattle.board.specs.declared.Board.{Board}
-use Rattle.calendar.specs.Calendars.{answer, calendar_of, written_of}
+use Rattle.calendar.specs.Calendars.{calendar_of, written_of}
 use Rattle.calendar.proofs.Lengths.{few_by}
 use Rattle.hulls.specs.Rooms.{board_in}
 use Rattle.links.proofs.Linking.{known}
@@ -18,7 +20,7 @@ returns-in_err-refusal c =
     let o = a.out.now in
     let k = a.kept.now in
     record {
-      reply = of_refused a.file.now (λ (p : Plan). calendar_of p (board_in k) a.origin o) (λ (number place : ℕ). answer number place 0) _ e;
+      reply = of_refused a.file.now (λ (p : Plan). calendar_of p (board_in k) a.origin o) (λ (number place : ℕ). Err (refusal number place)) _ e;
       bytes = of_refused a.file.now (λ (p : Plan). written_of p (board_in k) a.origin o) (λ (number place : ℕ). o) _ e;
     }
 
@@ -37,6 +39,6 @@ returns c =
     let k = c.write_by.ensures in
     let w = sheet_read _ p e c.links_by-links.ensures c.ponds_of.ensures in
     record {
-      reply = by_board a.file.now (λ (p : Plan) (k : Board). calendar_of p k a.origin a.out.now) (λ (number place : ℕ). answer number place 0) p e _ _ bo _ (k.reply p w);
+      reply = by_board a.file.now (λ (p : Plan) (k : Board). calendar_of p k a.origin a.out.now) (λ (number place : ℕ). Err (refusal number place)) p e _ _ bo _ (k.reply p w);
       bytes = by_board a.file.now (λ (p : Plan) (k : Board). written_of p k a.origin a.out.now) (λ (number place : ℕ). a.out.now) p e _ _ bo _ (k.bytes p w);
     }

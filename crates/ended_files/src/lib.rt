@@ -13,7 +13,7 @@ use engine::KEPT;
 use halves::{answer, half};
 use hulls::board_in;
 use links::links_by;
-use plan::Refusal;
+use plan::{ACCEPTED, Refusal};
 use plan_file::read;
 use verdict::{Verdict, verdict_of};
 

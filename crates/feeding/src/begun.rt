@@ -68,15 +68,15 @@ pub fn begin_read(
     if let Err(refusal) = reading {
         return Begun {
             number: refusal.number,
-            links: links,
-            ponds: ponds,
+            links,
+            ponds,
             end: put_line(lines, 0, text::plan_line(refusal.number, refusal.place)),
         };
     }
     Begun {
         number: ACCEPTED,
-        links: links,
-        ponds: ponds,
+        links,
+        ponds,
         end: put_first(full, plan, links, ponds, &*rows, &*out, &*kept, lines),
     }
 }

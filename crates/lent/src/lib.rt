@@ -43,14 +43,14 @@ fn begun(plan: Plan, board: Board) -> Judging
     if found.number != ACCEPTED {
         return Judging {
             answer: Judged::Refused(found.number, found.place as usize),
-            points: points,
-            board: board,
+            points,
+            board,
         };
     }
     Judging {
         answer: Judged::Kept,
-        points: points,
-        board: board,
+        points,
+        board,
     }
 }
 
@@ -103,7 +103,7 @@ fn judged_after(past: Judging, i: usize, b: Bound) -> Judging
     Judging {
         answer: answer_after(answer, i, named, kept),
         points: past.points,
-        board: board,
+        board,
     }
 }
 

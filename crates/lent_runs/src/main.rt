@@ -53,18 +53,14 @@ fn board(done: u32, last: u32, call: u32) -> Board {
     calls[3] = call;
     Board {
         clock: 47,
-        done: done,
-        minutes: minutes,
-        calls: calls,
+        done,
+        minutes,
+        calls,
     }
 }
 
 fn bound(from: u8, to: u8, bound: i32) -> Bound {
-    Bound {
-        from: from,
-        to: to,
-        bound: bound,
-    }
+    Bound { from, to, bound }
 }
 
 // The first `count` of a list that holds the same bound in each place but one.

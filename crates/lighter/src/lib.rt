@@ -39,7 +39,7 @@ fn without(plan: Plan, at: usize) -> Plan
     }
     Plan {
         count: n as u32,
-        records: records,
+        records,
     }
 }
 

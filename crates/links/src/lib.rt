@@ -97,9 +97,9 @@ pub fn links_by(plan: Plan, checked: bool) -> Links
         watched = watched_after(r, watched);
     }
     Links {
-        points: points,
-        watched: watched,
-        ends: ends,
+        points,
+        watched,
+        ends,
     }
 }
 

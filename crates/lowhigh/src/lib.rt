@@ -171,9 +171,9 @@ pub fn tables_of(plan: Plan, links: Links, clock: u32, done: u32, minutes: [u32;
         shut = with_if(so, shut, r.a);
     }
     Tables {
-        shut: shut,
-        holders: holders,
-        lows: lows,
-        highs: highs,
+        shut,
+        holders,
+        lows,
+        highs,
     }
 }

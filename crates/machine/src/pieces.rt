@@ -41,8 +41,8 @@ pub fn feed(
             number: stage.number,
             part: stage.part,
             events: stage.events,
-            links: links,
-            ponds: ponds,
+            links,
+            ponds,
             used: input.len(),
             end: 0,
         };
@@ -66,8 +66,8 @@ pub fn feed(
         number: ACCEPTED,
         part: stage.part,
         events: said.events,
-        links: links,
-        ponds: ponds,
+        links,
+        ponds,
         used: said.used,
         end: said.end,
     }

@@ -40,8 +40,8 @@ pub fn plan_turn(
             number: stage.number,
             part: part.length,
             events: stage.events,
-            links: links,
-            ponds: ponds,
+            links,
+            ponds,
             used: part.used,
             end: 0,
         };
@@ -58,8 +58,8 @@ pub fn plan_turn(
         number: begun.number,
         part: part.length,
         events: 0,
-        links: links,
-        ponds: ponds,
+        links,
+        ponds,
         used: part.used,
         end: put_last(over, begun.number, plan, &*kept, 0, lines, begun.end),
     }

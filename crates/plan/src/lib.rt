@@ -55,10 +55,7 @@ pub fn empty(any: usize) -> Plan
     ensures { result ≡ plan_of [] }
 {
     let records = blanks(any);
-    Plan {
-        count: 0,
-        records: records,
-    }
+    Plan { count: 0, records }
 }
 
 // What reading answers where it refuses.

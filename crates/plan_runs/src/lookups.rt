@@ -72,7 +72,7 @@ fn replaced(plan: Plan, i: usize, r: Record) -> Plan {
 // A record with every field set.
 fn garbage(kind: u8) -> Record {
     Record {
-        kind: kind,
+        kind,
         a: 255,
         b: 255,
         first: -2147483648,

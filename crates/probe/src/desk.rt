@@ -38,8 +38,8 @@ impl Desk {
         let plan = empty(0);
         let board = board::fresh();
         Desk {
-            plan: plan,
-            board: board,
+            plan,
+            board,
             next: 0,
             length: 0,
             times: 0,

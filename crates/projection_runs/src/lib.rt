@@ -79,7 +79,7 @@ pub fn run(
         k += 1;
     }
     Ran {
-        minute: minute,
+        minute,
         events: k as u32,
     }
 }

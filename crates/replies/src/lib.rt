@@ -91,9 +91,9 @@ pub fn nothing_more(outcome: Outcome) -> Reply
     };
     let places = [shut; ROOM];
     Reply {
-        outcome: outcome,
+        outcome,
         latest: 0,
-        places: places,
+        places,
     }
 }
 
@@ -129,12 +129,12 @@ pub fn list(
             latest,
             lows[at],
         );
-        places[at] = Place { state: state };
+        places[at] = Place { state };
     }
     Reply {
-        outcome: outcome,
-        latest: latest,
-        places: places,
+        outcome,
+        latest,
+        places,
     }
 }
 

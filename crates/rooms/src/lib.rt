@@ -105,6 +105,6 @@ pub fn begin(
     Started {
         number: found.number,
         place: found.place,
-        links: links,
+        links,
     }
 }

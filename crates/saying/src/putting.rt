@@ -82,7 +82,7 @@ pub fn put_events(
     }
     Said {
         used: RECORD_BYTES * i,
-        end: end,
+        end,
         events: next,
     }
 }

@@ -26,7 +26,7 @@ impl Sheet {
             length: self.length,
             events: wrapping_add_u64(self.events, n as u64),
             last: self.last,
-            plan: plan,
+            plan,
             taken: reply,
         }
     }

@@ -64,7 +64,7 @@ impl Sheet {
         let taken = Taken {
             number: ACCEPTED,
             place: 0,
-            board: board,
+            board,
         };
         Sheet {
             stage: PLANNING,
@@ -72,8 +72,8 @@ impl Sheet {
             length: 0,
             events: 0,
             last: 0,
-            plan: plan,
-            taken: taken,
+            plan,
+            taken,
         }
     }
 
@@ -82,13 +82,13 @@ impl Sheet {
         ensures { result ≡ turned self stage news plan taken }
     {
         Sheet {
-            stage: stage,
-            news: news,
+            stage,
+            news,
             length: self.length,
             events: self.events,
             last: self.last,
-            plan: plan,
-            taken: taken,
+            plan,
+            taken,
         }
     }
 
@@ -105,7 +105,7 @@ impl Sheet {
                 let taken = Taken {
                     number: refusal.number,
                     place: refusal.place,
-                    board: board,
+                    board,
                 };
                 self.turned(OVER, REFUSED, plan, taken)
             }
@@ -136,7 +136,7 @@ impl Sheet {
             length: self.length,
             events: wrapping_add_u64(self.events, 1),
             last: self.events,
-            plan: plan,
+            plan,
             taken: reply,
         }
     }

@@ -48,9 +48,9 @@ fn mark_set(marks: Marks, set: u32, t: u32, n: u32) -> Marks
         done = with(done, p);
     }
     Marks {
-        done: done,
-        minutes: minutes,
-        calls: calls,
+        done,
+        minutes,
+        calls,
     }
 }
 
@@ -66,8 +66,8 @@ fn mark(marks: Marks, p: u8, t: u32, n: u32) -> Marks
         calls[place] = n;
         return Marks {
             done: with(marks.done, p),
-            minutes: minutes,
-            calls: calls,
+            minutes,
+            calls,
         };
     }
     marks
@@ -104,8 +104,8 @@ pub fn step_from(links: Links, clock: u32, marks: Marks, w: Windows, event: &[u8
         return Step {
             number: found.number,
             place: found.place,
-            clock: clock,
-            marks: marks,
+            clock,
+            marks,
         };
     }
     let e = event_in(event);

@@ -73,9 +73,9 @@ pub fn windows_of(plan: Plan, links: Links, clock: u32, done: u32, minutes: [u32
     let opens = minus(minus(foremans, done), tables.shut);
     let high = least_high(opens, highs);
     Windows {
-        opens: opens,
-        holders: holders,
-        lows: lows,
-        high: high,
+        opens,
+        holders,
+        lows,
+        high,
     }
 }

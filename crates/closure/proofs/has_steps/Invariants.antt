@@ -1,6 +1,6 @@
 -- `closure::has_steps` meets its contract. Assumes nothing.
 use mathlib.Core.Path.{◌≡◌}
-use Prim.Native.Nat.{◌-◌, ◌≤◌}
+use Prim.Native.Nat.{◌≤◌}
 use lib.ListN.{length}
 use Rattle.plan.specs.Limits.{most_records}
 use Rattle.closure.proofs.Coding.{Looked}

@@ -1,6 +1,5 @@
 -- `closure::made::first_records` meets its contract. Assumes nothing.
 use mathlib.Core.Path.{◌≡◌}
-use Prim.Native.Nat.{◌-◌}
 use lib.ListN.{length}
 use Rattle.plan.specs.Limits.{most_records}
 use Rattle.closure.proofs.Coding.{Copied}

@@ -1,6 +1,6 @@
 -- `closure::made::with_row` meets its contract. Assumes nothing.
 use mathlib.Core.Path.{◌≡◌}
-use Prim.Native.Nat.{◌+◌, ◌-◌, ◌≤◌, ◌<◌}
+use Prim.Native.Nat.{◌+◌, ◌≤◌, ◌<◌}
 use lib.ListN.{length, take}
 use Rattle.plan.specs.Limits.{most_records}
 use Rattle.tables.specs.Tables.{side}

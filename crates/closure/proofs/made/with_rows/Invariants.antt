@@ -1,5 +1,4 @@
 -- `closure::made::with_rows` meets its contract. Assumes nothing.
-use Prim.Native.Nat.{◌-◌}
 use Rattle.plan.specs.APlan.{records_of}
 use Rattle.tables.specs.Entries.{at}
 use Rattle.closure.proofs.Coding.{RowsSofar}

@@ -9,14 +9,11 @@ use lib.ListN.{length, drop, get_or, drop_of_length-le}
 use lib.Seq.{drop-cons}
 use Rattle.points.specs.Sets.{from, every}
 use Rattle.plan.specs.Limits.{most_records}
-use Rattle.plan.specs.APlan.{link, is, some, blank, records_of}
+use Rattle.plan.specs.APlan.{some, blank, records_of}
 use Rattle.plan.proofs.Records.{next_record, last_record}
 use Rattle.records.specs.declared.Record.{Record}
 use Rattle.plan.specs.declared.Plan.{Plan}
 use Rattle.history.specs.History.{minute_in, each, largest}
-use Rattle.history.specs.Inside.{asked}
-use Rattle.history.specs.declared.each.Ask.{Ask}
-use Rattle.history.specs.declared.each.Ask.TheVariants.{InBounds, Earlier}
 
 -- the points from i up to n
 module _ (test : ℕ → Bool) (n i : ℕ) where
@@ -65,11 +62,6 @@ module _ (so : Record → Bool) (p : Plan) (n : ℕ) where
     pub left_end : n ≤ i → true ≡ each so (records_of p)
     unfolding each
     left_end h = rw (drop_of_length-le (records_of p) (last_record p w.room n w.all i h)) at w.same
-
--- what is asked of every record is so of one that is no link
-pub so_of_others : (clock done : ℕ) (minutes : List ℕ) (ask : Ask) (r : Record) → is link r ≡ false → asked clock done minutes ask r ≡ true
-so_of_others clock done minutes InBounds r e = rw e
-so_of_others clock done minutes Earlier r e = rw e
 
 -- none of the records is so
 pub none_so : (so : Record → Bool) (rs : List Record) → each (λ (r : Record). not (so r)) rs ≡ not (some so rs)

@@ -12,7 +12,7 @@ ghost use Rattle.history.specs.History.{minute_in};
 mod each;
 mod sound;
 
-pub use each::{Ask, every_record};
+pub use each::{all_earlier, all_in_bounds};
 use plan::{Plan, points_of};
 use points::{MOST, below};
 pub use sound::{all_fit, last_done};

@@ -4,7 +4,7 @@ use mathlib.Core.List.{List, [], ◌∷◌, ◌++◌}
 use Prim.Native.Nat.{ℕ, ◌≤◌}
 use lib.ListN.{length, set}
 use lib.Seq.{set_out}
-use Rattle.points.specs.Sets.{members_of, with_of}
+use Rattle.points.specs.Sets.{with_of}
 use Rattle.points.proofs.Laws.{with_past}
 use Rattle.taking.specs.Steps.{marked_by}
 use Rattle.taking.specs.declared.Marks.{Marks}

@@ -8,7 +8,7 @@ use lib.Dec.{eqb, ltb}
 use borrow.Author.Tests.{ltb-true}
 use Rattle.std.specs.Prelude.{if◌then◌else◌}
 use lib.ListN.{get_or}
-use Rattle.points.specs.Sets.{member, members_of, below_of}
+use Rattle.points.specs.Sets.{member, below_of}
 use Rattle.points.proofs.Laws.{member_below}
 use Rattle.plan.specs.Limits.{most_points}
 use Rattle.plan.specs.APlan.{some, points, watched}

@@ -1,6 +1,6 @@
 -- `replies::list` meets its contract. Assumes nothing.
 use mathlib.Core.List.{[]}
-use Prim.Native.Nat.{◌≤◌, ◌-◌}
+use Prim.Native.Nat.{◌≤◌}
 use Rattle.plan.specs.Limits.{most_points}
 use Rattle.replies.specs.Inside.{place_from}
 use Rattle.replies.proofs.Replying.{Listed}

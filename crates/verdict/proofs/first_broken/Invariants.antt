@@ -1,6 +1,6 @@
 -- `verdict::first_broken` meets its contract. Assumes nothing.
 use mathlib.Core.Path.{◌≡◌}
-use Prim.Native.Nat.{ℕ, ◌≤◌, ◌<◌, ◌-◌, min}
+use Prim.Native.Nat.{ℕ, ◌≤◌, ◌<◌, min}
 use lib.ListN.{length, drop, get_or}
 use Rattle.plan.specs.Limits.{most_points, most_records}
 use Rattle.plan.specs.APlan.{records_of}

@@ -1,7 +1,6 @@
 -- `windows::least_high` meets its contract. Assumes nothing.
-use Rattle.std.proofs.Common.{◌≡◌, min, sym, ap, ◌∙◌, arith}
+use Rattle.std.proofs.Common.{◌≡◌, sym, ◌∙◌, arith}
 use Rattle.points.specs.Sets.{members_of}
-use Rattle.windows.specs.Inside.{least_at}
 use Rattle.windows.proofs.Opening.{least_at_le, least_more, least_none}
 use Rattle.windows.proofs.least_high.Goals as goal
 

@@ -1,6 +1,6 @@
 -- `board::stream::take_each` meets its contract. Assumes nothing.
 use mathlib.Core.Path.{◌≡◌}
-use Prim.Native.Nat.{◌≤◌, ◌-◌, ◌*◌}
+use Prim.Native.Nat.{◌≤◌, ◌*◌}
 use lib.ListN.{length}
 use Rattle.plan.specs.Limits.{record_bytes}
 use Rattle.board.specs.Streams.{said_numbers}

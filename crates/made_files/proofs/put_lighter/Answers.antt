@@ -11,7 +11,7 @@ returns c =
     let e = c.lighter_as-plan.ensures in
     let f = c.file_plan-filed.ensures in
     record {
-      reply = filed_answer_lem _ _ _ _ _ f.reply c.count_in.ensures c.answer_with.ensures ∙ ap (λ (x : Reading). filed_answer x a.out.now) e;
+      reply = filed_answer_lem c.lighter_as-plan.result a.out.now _ _ _ f.reply c.count_in.ensures c.answer_with.ensures ∙ ap (λ (x : Reading). filed_answer x a.out.now) e;
       bytes = f.bytes ∙ ap (λ (x : Reading). file_left x a.out.now) e;
       dropped = dropped_is a.made a.out.now a.room.now _ _ (rw e at f.reply) c.put_dropped.ensures;
     }

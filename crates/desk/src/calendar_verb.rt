@@ -5,7 +5,7 @@ use crate::sheet_in::sheet_in;
 use crate::{argument, usage};
 use calendar::{MOST_TEXT, write_calendar};
 use dates::Stamp;
-use stream::{PLAYING, Sheet, within};
+use stream::{Sheet, Stage, within};
 
 // Word i behind the program's name as a number; none where it is no number.
 fn number(rt: HostRuntime, i: usize) -> Option<u32> {
@@ -32,7 +32,7 @@ fn write(rt: HostRuntime, sheet: Sheet, origin: Stamp) {
 // The calendar of the sheet that standard input holds.
 fn calendar(rt: HostRuntime, origin: Stamp) {
     let sheet = sheet_in(rt.stdin());
-    if sheet.stage != PLAYING {
+    if sheet.stage != Stage::Playing {
         let taken = sheet.taken;
         return say(rt, Out::Error, text::plan_line(taken.number, taken.place));
     }

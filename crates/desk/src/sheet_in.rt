@@ -6,7 +6,7 @@ ghost use Rattle.plan.specs.Limits.{record_bytes};
 use board::SAID;
 use handles::read_full;
 use std::io::Stdin;
-use stream::{PLAYING, Sheet};
+use stream::{Sheet, Stage};
 
 const RECORD: usize = plan::RECORD_BYTES;
 
@@ -29,7 +29,7 @@ fn planned(sheet: Sheet, chunk: &[u8], n: usize) -> Passed
     let mut now = sheet;
     let mut i: usize = 0;
     while i < n {
-        if now.stage == PLAYING {
+        if now.stage == Stage::Playing {
             break;
         }
         let at = RECORD * i;
@@ -48,7 +48,7 @@ fn taken(sheet: Sheet, chunk: &[u8], n: usize) -> Sheet
 {
     let front = planned(sheet, chunk, n);
     let now = front.sheet;
-    if now.stage != PLAYING {
+    if now.stage != Stage::Playing {
         return now;
     }
     let mut space = [0u32; SAID * MANY];

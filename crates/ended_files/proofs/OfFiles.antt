@@ -9,7 +9,7 @@ use Rattle.plan.specs.ReplyNumbers.{number_in, plan_in, read_of, check_of}
 use Rattle.plan.proofs.Limited.{records_in, parts, read_taken}
 use Rattle.plan.proofs.RoundTrip.{read_is_checked, checked_count}
 use Rattle.plan.specs.Limits.{most_points, most_ordinary, most_records}
-use Rattle.plan.specs.APlan.{blank, records_of}
+use Rattle.plan.specs.APlan.{blank, plan_of, records_of}
 use Rattle.plan.specs.declared.Plan.{Plan}
 use Rattle.plan.specs.declared.Refusal.{Refusal}
 use Rattle.records.specs.declared.Record.{Record}

@@ -1,8 +1,11 @@
 -- The plan that is read, and the end, from what the calls answer. Assumes nothing.
 use Rattle.std.proofs.Common.{◌≡◌, ℕ, ◌+◌, ◌≤◌, Bool, true, false, List, [], ◌∷◌, ◌++◌, sym, refl, ap, ◌∙◌, arith, eq-eqb, ne_eqb}
 use Rattle.plan.specs.ReplyNumbers.{Reading, number_in, place_in, plan_in}
-use Rattle.plan.specs.Limits.{most_points}
+use Rattle.std.specs.Prelude.{Err}
+use Rattle.plan.specs.Limits.{most_points, most_ordinary}
 use Rattle.plan.specs.declared.Plan.{Plan}
+use Rattle.plan.specs.declared.Refusal.{Refusal}
+use Rattle.plan.proofs.Limited.{refused_number}
 use Rattle.links.specs.declared.Links.{Links}
 use Rattle.board.specs.declared.Board.{Board}
 use Rattle.board.proofs.Theorems.Each.{clash}
@@ -39,30 +42,18 @@ module _ (p : Plan) (l : Links) (ponds rows out kept lines₀ : List ℕ) where
 
 module _ (full : Bool) (n : ℕ) (front rows₀ into₀ out₀ ends₀ kept₀ lines₀ rows into out ends kept lines : List ℕ) (r : Reading) (e : r ≡ read_front n front) (s : Started)
     (b : BeginsWith (plan_in r) s rows₀ into₀ out₀ ends₀ kept₀ rows into out ends kept) (ponds : List ℕ) (q : ForEach (pond_at (plan_in r)) 0 most_points ponds) {end : ℕ} where
-  pub begun_refused : (number_in r ≡ 0 → ⊥) → (line : Line) → line ≡ plan_line (number_in r) (place_in r) → Made lines₀ 0 (text_in line) lines end
-      → PlanBegun full n front rows₀ into₀ out₀ ends₀ kept₀ lines₀ rows into out ends kept lines (record { number = number_in r; links = s.links; ponds = ponds; end = end })
-  begun_refused bad line f m =
+  pub begun_refused : (x : Refusal) → r ≡ Err x → (line : Line) → line ≡ plan_line x.number x.place → Made lines₀ 0 (text_in line) lines end
+      → PlanBegun full n front rows₀ into₀ out₀ ends₀ kept₀ lines₀ rows into out ends kept lines (record { number = x.number; links = s.links; ponds = ponds; end = end })
+  begun_refused x k line f m =
+      let h : Err x ≡ read_front n front = sym k ∙ e in
       record {
         started = s;
         begins = rw e at b;
-        number = ap number_in e;
+        number = ap number_in h;
         links = refl;
         ponds = rw e at q;
-        refused = λ z. (rw (f, e) at m);
-        read = λ z. absurd (bad z);
-      }
-
-  pub begun_read : number_in r ≡ 0 → FirstPut full (plan_in r) s.links ponds rows out kept lines₀ lines end
-      → PlanBegun full n front rows₀ into₀ out₀ ends₀ kept₀ lines₀ rows into out ends kept lines (record { number = 0; links = s.links; ponds = ponds; end = end })
-  begun_read good m =
-      record {
-        started = s;
-        begins = rw e at b;
-        number = sym good ∙ ap number_in e;
-        links = refl;
-        ponds = rw e at q;
-        refused = λ z. absurd (z refl);
-        read = λ z. (rw e at m);
+        refused = λ z. (rw (f ∙ ap (λ (y : Reading). plan_line (number_in y) (place_in y)) h) at m);
+        read = λ z. absurd (refused_number most_ordinary _ x h z);
       }
 
 -- ---- the end

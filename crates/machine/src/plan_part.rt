@@ -28,7 +28,7 @@ pub fn plan_turn(
 ) -> Stage
     requires room { most_made ≤ length lines.old }
     requires last { over ≡ true → room * (most_points + 4) ≤ length lines.old }
-    requires open { stage.begun ≡ false }
+    requires unread { stage.begun ≡ false }
     ensures { Turned full over stage front.old rows.old into.old out.old ends.old kept.old piece.now lines.old front.new rows.new into.new out.new ends.new kept.new lines.new result }
 {
     let part = keep_part(over, front, stage.part, piece);

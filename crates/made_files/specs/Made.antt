@@ -29,12 +29,12 @@ abbrev pub plan_in : Lighter → Reading
 plan_in x = Ok x.plan
 
 -- a plan that was made or refused, on its way into a buffer: its own refusal, or what writing its file answers
-unfoldable pub filed_of : Reading → List ℕ → Refusal
+abbrev pub filed_of : Reading → List ℕ → Refusal
 filed_of (Ok p) out = write_of p out
 filed_of (Err x) out = x
 
 -- the buffer after that
-unfoldable pub file_left : Reading → List ℕ → List ℕ
+abbrev pub file_left : Reading → List ℕ → List ℕ
 file_left (Ok p) out = written_of p out
 file_left (Err x) out = out
 

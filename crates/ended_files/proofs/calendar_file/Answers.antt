@@ -1,5 +1,5 @@
 -- `ended_files::calendar_file` meets its contract. Assumes nothing.
-use mathlib.Core.Path.{refl}
+use mathlib.Core.Path.{refl, sym, ◌∙◌}
 use Prim.Native.Nat.{ℕ}
 use Rattle.std.specs.Prelude.{Err}
 use Rattle.plan.specs.ReplyNumbers.{refusal}
@@ -13,10 +13,10 @@ use Rattle.halves.proofs.OfFile.{of_refused}
 use Rattle.ended_files.proofs.OfFiles.{by_board, read_accepted, sheet_read}
 use Rattle.ended_files.proofs.calendar_file.Goals as goal
 
-pub returns-in_err-refusal : goal.returns-in_err-refusal
-returns-in_err-refusal c =
+pub returns-in-Err : goal.returns-in-Err
+returns-in-Err c =
     let a = c.args in
-    let e = c.in_err-refusal.ensures in
+    let e = sym c.in-Err.is ∙ c.read.ensures in
     let o = a.out.now in
     let k = a.kept.now in
     record {
@@ -25,16 +25,16 @@ returns-in_err-refusal c =
     }
 
 pub links_by-links-requires : goal.links_by-links-requires
-links_by-links-requires c = known _ _ refl (read_accepted _ _ c.in_ok-plan.ensures)
+links_by-links-requires c = known _ _ refl (read_accepted _ c.in-Ok.plan (sym c.in-Ok.is ∙ c.read.ensures))
 
 pub write_by-requires : goal.write_by-requires
-write_by-requires c = few_by (sheet_read _ _ c.in_ok-plan.ensures c.links_by-links.ensures c.ponds_of.ensures)
+write_by-requires c = few_by (sheet_read _ c.in-Ok.plan (sym c.in-Ok.is ∙ c.read.ensures) c.links_by-links.ensures c.ponds_of.ensures)
 
 pub returns : goal.returns
 returns c =
     let a = c.args in
-    let p = c.in_ok-plan.plan in
-    let e = c.in_ok-plan.ensures in
+    let p = c.in-Ok.plan in
+    let e = sym c.in-Ok.is ∙ c.read.ensures in
     let bo = c.board_in-board.ensures in
     let k = c.write_by.ensures in
     let w = sheet_read _ p e c.links_by-links.ensures c.ponds_of.ensures in

@@ -6,7 +6,7 @@ use borrow.Author.Rules.{rules}
 use Rattle.turns.proofs.turn.Goals as goal
 
 pub plan_turn-requires : goal.plan_turn-requires
-plan_turn-requires c = record { room = omega (arith, c.requires.0); last = λ e. c.requires.0; open = not-true _ c.if-not-stage.true }
+plan_turn-requires c = record { room = omega (arith, c.requires.0); last = λ e. c.requires.0; unread = not-true _ c.if-not-stage.true }
 
 pub returns-then-not-stage : goal.returns-then-not-stage
 returns-then-not-stage c = c.plan_turn.ensures

@@ -7,7 +7,7 @@ use Rattle.machine.specs.Feeds.{events_over_lem, refused_over}
 use Rattle.machine.proofs.ended.finish.Goals as goal
 
 pub plan_turn-read-requires : goal.plan_turn-read-requires
-plan_turn-read-requires c = record { room = omega (arith, c.requires.0); last = λ e. c.requires.0; open = not-true _ c.if-not-stage.true }
+plan_turn-read-requires c = record { room = omega (arith, c.requires.0); last = λ e. c.requires.0; unread = not-true _ c.if-not-stage.true }
 
 pub returns-then-not-stage : goal.returns-then-not-stage
 returns-then-not-stage c = c.plan_turn-read.ensures.last refl

@@ -1,5 +1,5 @@
 -- `machine::feed` meets its contract. Assumes nothing.
-use mathlib.Core.Path.{refl}
+use mathlib.Core.Path.{refl, sym}
 use native.Mathlib.Omega.{arith}
 use borrow.Author.Tests.{not-true, not-false}
 use Rattle.history.proofs.Tests.{clash}
@@ -8,7 +8,7 @@ use Rattle.machine.proofs.Stages.{feeds_within}
 use Rattle.machine.proofs.pieces.feed.Goals as goal
 
 pub plan_turn-requires : goal.plan_turn-requires
-plan_turn-requires c = record { room = c.requires; last = λ e. clash e; open = not-true _ c.if-not-stage.true }
+plan_turn-requires c = record { room = c.requires; last = λ e. clash (sym e); unread = not-true _ c.if-not-stage.true }
 
 pub returns-then-not-stage : goal.returns-then-not-stage
 returns-then-not-stage c = let f = c.plan_turn.ensures.on refl in record { fed = f; within = feeds_within _ f }

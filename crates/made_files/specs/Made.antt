@@ -1,7 +1,7 @@
 -- The plans that are made of a plan file, given as its bytes s, or of a text, and what is left in a buffer that their files are written into.
 -- Assumes nothing.
 use Rattle.std.specs.Prelude.{◌≡◌, ◌≢◌, List, Result, ℕ, eqb, Ok, Err, if◌then◌else◌}
-use Rattle.plan.specs.ReplyNumbers.{Reading, refusal, refused, number_in, place_in, plan_in as plan_read, read_of, write_of, written_of}
+use Rattle.plan.specs.ReplyNumbers.{Reading, refusal, number_in, place_in, plan_in as plan_read, read_of, write_of, written_of}
 use Rattle.plan.specs.declared.Refusal.{Refusal}
 use Rattle.office.specs.Sheets.{import_of}
 use Rattle.office.specs.declared.Refused.{Refused}
@@ -19,7 +19,7 @@ close_file s = of_file s close_of (λ number place. read_of s)
 -- an imported plan; the line of a refusal as far as a number of 32 bits goes
 abbrev pub imported_as : Result Plan Refused → Reading
 imported_as (Ok p) = Ok p
-imported_as (Err x) = refused (refusal x.number (half_of x.line))
+imported_as (Err x) = Err (refusal x.number (half_of x.line))
 
 abbrev pub import_text : List ℕ → Reading
 import_text s = imported_as (import_of s)

@@ -5,7 +5,6 @@ use Rattle.made_files.proofs.OfPlans.{filed_answer_lem, dropped_is}
 use Rattle.made_files.proofs.put_lighter.Goals as goal
 
 pub returns : goal.returns
-unfolding filed_of file_left
 returns c =
     let a = c.args in
     let f = c.write-filed.ensures in

@@ -77,7 +77,11 @@ pub fn word(a: u8, b: u8, c: u8, d: u8) -> u32 {
 }
 
 fn block_of(bytes: &[u8; 16], whole: bool) -> Block {
-    let asked = if whole { Asked::from(bytes[0]) } else { Asked::Over };
+    let asked = if whole {
+        Asked::from(bytes[0])
+    } else {
+        Asked::Over
+    };
     Block {
         asked: asked,
         p: bytes[1],

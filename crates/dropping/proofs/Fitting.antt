@@ -21,7 +21,6 @@ use Rattle.tables.proofs.Widths.{wide_in, finite, wide_there}
 use Rattle.rows.specs.Sheet.{SheetEdge}
 use Rattle.rows.specs.Layout.{LaidOut}
 use Rattle.rows.specs.Filled.{Filled}
-use Rattle.projection.specs.declared.Finding.{Finding}
 use Rattle.projection.specs.declared.Finding.TheVariants as finding
 use Rattle.projection.specs.Findings.{FoundOf, is_good, has_cycle_lem, has_pair, JudgeReady}
 use Rattle.projection.proofs.Laws.{same_good}
@@ -73,16 +72,11 @@ module _ {s w : List ℕ} {m n x y most : ℕ} (a : FitAsks s w m n x y most) {t
     pub fits_good : raw t x y ≤ most → FoundOf (SheetEdge s w m) finding.Good → Told (EnoughRows s w m x y most) true
     fits_good l (is_good g) = told_yes (record { good = g; reaches = fits_near l })
 
-    fits_no_cycle : FoundOf (SheetEdge s w m) finding.Cycle → Told (EnoughRows s w m x y most) false
+    pub fits_no_cycle : FoundOf (SheetEdge s w m) finding.Cycle → Told (EnoughRows s w m x y most) false
     fits_no_cycle (has_cycle_lem c) = told_no (λ h. not_both (SheetEdge s w m) h.good.consistent c)
 
-    fits_no_pair : {X Y : ℕ} → FoundOf (SheetEdge s w m) (finding.Pair X Y) → Told (EnoughRows s w m x y most) false
+    pub fits_no_pair : {X Y : ℕ} → FoundOf (SheetEdge s w m) (finding.Pair X Y) → Told (EnoughRows s w m x y most) false
     fits_no_pair {X} {Y} (has_pair p) = told_no (λ h. not_fine (SheetEdge s w m) (h.good.dispatchable.best X Y) p.bad)
-
-    pub fits_not : (f : Finding) → (f ≡ finding.Good → ⊥) → FoundOf (SheetEdge s w m) f → Told (EnoughRows s w m x y most) false
-    fits_not finding.Good n e = absurd (n refl)
-    fits_not finding.Cycle n e = fits_no_cycle e
-    fits_not (finding.Pair X Y) n e = fits_no_pair e
 
 -- ---- all projections of a sheet
 

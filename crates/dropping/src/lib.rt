@@ -37,10 +37,11 @@ fn fits(
     if most < all[x * SIDE + y] {
         return false;
     }
-    matches!(
-        judge_by(&*all, durations, sheet, m, n, &mut *ways),
-        Finding::Good
-    )
+    match judge_by(&*all, durations, sheet, m, n, &mut *ways) {
+        Finding::Good => true,
+        Finding::Cycle => false,
+        Finding::Pair(_, _) => false,
+    }
 }
 
 // Whether each projection is, in order up to the first that is not, in the same two tables.

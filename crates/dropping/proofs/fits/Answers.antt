@@ -1,5 +1,5 @@
 -- `dropping::fits` meets its contract. Assumes nothing.
-use Rattle.dropping.proofs.Fitting.{fits_cycle, fits_judged, fits_far, fits_good, fits_not}
+use Rattle.dropping.proofs.Fitting.{fits_cycle, fits_judged, fits_far, fits_good, fits_no_cycle, fits_no_pair}
 use native.Mathlib.Omega.{arith}
 use mathlib.Core.Path.{ap}
 use mathlib.Core.Bool.{not}
@@ -17,5 +17,8 @@ judge_by-requires c = fits_judged c.requires c.fill.ensures (ap not c.if-not-fil
 pub returns-in-Good : goal.returns-in-Good
 returns-in-Good c = fits_good c.requires c.fill.ensures (ap not c.if-not-fill.false) (omega (arith, c.if-most-all.false)) (rw c.in-Good.is at c.judge_by.ensures)
 
-pub returns-in_default : goal.returns-in_default
-returns-in_default c = fits_not c.requires c.fill.ensures (ap not c.if-not-fill.false) _ c.in_default.not-Good c.judge_by.ensures
+pub returns-in-Cycle : goal.returns-in-Cycle
+returns-in-Cycle c = fits_no_cycle c.requires c.fill.ensures (ap not c.if-not-fill.false) (rw c.in-Cycle.is at c.judge_by.ensures)
+
+pub returns-in-Pair : goal.returns-in-Pair
+returns-in-Pair c = fits_no_pair c.requires c.fill.ensures (ap not c.if-not-fill.false) (rw c.in-Pair.is at c.judge_by.ensures)

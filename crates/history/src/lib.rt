@@ -20,13 +20,6 @@ pub use sound::{all_fit, last_done};
 // A place for each point.
 pub const ROOM: usize = plan::MOST_POINTS as usize;
 
-// A number of 32 bits, where sums are of 64; for `kept_rows`.
-pub fn wide(x: u32) -> u64
-    ensures { result ≡ x }
-{
-    u64::from(x)
-}
-
 // The minute of a point; a point past the last place has 0.
 pub fn minute_at(minutes: [u32; ROOM], p: u8) -> u32
     ensures { result ≡ minute_in minutes p }

@@ -4,7 +4,7 @@
 
 #![tactic(auto)]
 
-ghost use Rattle.std.specs.Prelude.{◌≡◌, ◌-◌, ◌≤◌, max, min, length, if◌then◌else◌};
+ghost use Rattle.std.specs.Prelude.{◌≡◌, ◌≤◌, length, if◌then◌else◌};
 ghost use Rattle.points.specs.Sets.{with_of};
 ghost use Rattle.plan.specs.Limits.{most_points};
 ghost use Rattle.plan.specs.APlan.{records_of};
@@ -20,25 +20,6 @@ pub const FARTHEST: u32 = plan::FARTHEST as u32;
 
 // Past every minute.
 pub const NEVER: u32 = 4294967295;
-
-pub fn larger(x: u32, y: u32) -> u32
-    ensures { result ≡ max x y }
-{
-    x.max(y)
-}
-
-pub fn lesser(x: u32, y: u32) -> u32
-    ensures { result ≡ min x y }
-{
-    x.min(y)
-}
-
-// The difference, and 0 where there is none.
-pub fn past(x: u32, y: u32) -> u32
-    ensures { result ≡ x - y }
-{
-    x.saturating_sub(y)
-}
 
 // What the records say of each point: which are shut, the number of the first record that keeps each of these shut and 0 for
 // the others, the Lows, and the Highs, 100,000 up.

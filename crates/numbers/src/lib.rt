@@ -1,12 +1,10 @@
-// Numbers: four bytes little-endian, thirty-two bits as a signed number and back, the tests of signed numbers, and what one
-// adds or takes away. Nothing else in the library touches a signed number. An inner room: it serves our own crates, and
-// `word_at` asks its caller that the four bytes are there.
+// Numbers: four bytes little-endian, thirty-two bits as a signed number and back, and what a signed number adds or takes away. An
+// inner room: it serves our own crates, and `word_at` asks its caller that the four bytes are there.
 
 #![tactic(auto)]
 
 ghost use Rattle.std.specs.Prelude.{◌≡◌, ◌+◌, ◌≤◌, length};
-ghost use Rattle.std.specs.Int.Signed.{le_z, lt_z};
-ghost use Rattle.numbers.specs.Numbers.{word_at, signed_of, bits_of, is_nought, gap_of};
+ghost use Rattle.numbers.specs.Numbers.{word_at, signed_of, bits_of, gap_of};
 
 // A signed number as what it adds and what it takes away.
 #[derive(Clone, Copy)]
@@ -35,24 +33,6 @@ pub fn bits(x: i32) -> u32
     ensures { result ≡ bits_of x }
 {
     x.cast_unsigned()
-}
-
-pub fn at_most(x: i32, y: i32) -> bool
-    ensures { result ≡ le_z x y }
-{
-    x <= y
-}
-
-pub fn less(x: i32, y: i32) -> bool
-    ensures { result ≡ lt_z x y }
-{
-    x < y
-}
-
-pub fn is_nought(x: i32) -> bool
-    ensures { result ≡ is_nought x }
-{
-    x == 0
 }
 
 // A signed number's parts: what it adds where it is not negative, what it takes away where it is.

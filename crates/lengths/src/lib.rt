@@ -37,7 +37,7 @@ pub fn length_of(up: u64, down: u64) -> Length
     }
 }
 
-// A distance and another after it.
+// A distance and another after it, `NEVER` where one is missing: a number for that and no `None`, since the least of all is then a plain `min`.
 fn both(a: u32, b: u32) -> u64
     ensures { result ≡ together a b }
 {

@@ -5,7 +5,7 @@ use mathlib.Core.List.{List}
 use Prim.Native.Nat.{ℕ}
 use native.Mathlib.Decide.{ℕ_discrete}
 use Rattle.plan.specs.APlan.{records_of}
-use Rattle.plan.specs.ReplyNumbers.{read_of, number_in, plan_in}
+use Rattle.plan.specs.ReplyNumbers.{read_of, number_in, plan_in as plan_read}
 use Rattle.plan.specs.declared.Refusal.{Refusal}
 use Rattle.lighter.specs.declared.Lighter.{Lighter}
 use Rattle.lighter.proofs.Theorems.{one_lighter}
@@ -51,8 +51,8 @@ module _ (s links₀ rows₀ into₀ out₀ ends₀ kept₀ links rows into out 
       go (yes e) =
           let a = x.taken e in
           let b = y.taken e in (
-            a.held ∙ ap links_room (one_links (records_of (plan_in (read_of s))) a.of b.of a.are b.are) ∙ sym b.held,
-            filled_same (records_of (plan_in (read_of s))) rows into out ends kept rows' into' out' ends' kept' a.rooms b.rooms,
+            a.held ∙ ap links_room (one_links (records_of (plan_read (read_of s))) a.of b.of a.are b.are) ∙ sym b.held,
+            filled_same (records_of (plan_read (read_of s))) rows into out ends kept rows' into' out' ends' kept' a.rooms b.rooms,
           )
       go (no n) =
           let a = x.refused n in

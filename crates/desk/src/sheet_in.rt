@@ -27,6 +27,7 @@ fn planned(sheet: Sheet, chunk: &[u8], n: usize) -> Passed
     ensures { result.past ≤ n }
 {
     let mut now = sheet;
+    // how many are passed is answered too, so the count goes on behind the loop, which may stop early
     let mut i: usize = 0;
     while i < n {
         if now.stage == Stage::Playing {

@@ -46,11 +46,7 @@ fn key_at(rows: &[u32; SHEET], least: u64, field: usize, i: usize) -> usize
     ensures { (result ≡ key_at rows.now least field i) × (result < buckets) }
 {
     let at = i * WIDTH;
-    key(
-        least,
-        u64::from(rows[at]),
-        u64::from(rows[at + field]),
-    )
+    key(least, u64::from(rows[at]), u64::from(rows[at + field]))
 }
 
 fn clear(list: &mut [u16; LIST])

@@ -27,6 +27,7 @@ pub fn digits_of(n: u32) -> usize
 {
     let mut k: usize = 1;
     let mut m = n;
+    // By division: no index is counted.
     while 10 <= m {
         m = m / 10;
         k += 1;
@@ -42,6 +43,7 @@ pub fn put_number(out: &mut [u8], at: usize, n: u32) -> usize
     let next = at + digits_of(n);
     let mut i = next - 1;
     let mut m = n;
+    // By division: no index is counted.
     while 10 <= m {
         out[i] = b'0' + (m % 10) as u8;
         m = m / 10;

@@ -89,6 +89,7 @@ fn year_of(from: u32, days: u32) -> Place
     let mut year = from;
     let mut left = days;
     let mut year_days = days_of(year);
+    // Days are taken away: no index is counted.
     while year_days <= left {
         left -= year_days;
         year += 1;
@@ -105,6 +106,7 @@ fn month_of(year: u32, days: u32) -> Place
     let mut month = 1;
     let mut left = days;
     let mut month_days = days_in(year, month);
+    // Days are taken away: no index is counted.
     while month_days <= left {
         left -= month_days;
         month += 1;

@@ -27,6 +27,7 @@ const NO_DRIVE: Drive = Drive {
 };
 
 // So many drives; the room after them is zero.
+// A room with its length beside it: the project has no heap.
 #[derive(Clone, Copy)]
 pub struct Drives {
     pub count: usize,

@@ -14,6 +14,7 @@ use rows::SHEET;
 use saying::{put_board, put_line};
 
 // The plan's own refusal, or number 0; the links and the pond of each point; and where the lines end.
+// Links, pond codes and lines are handed on, refused or not: so no Result.
 #[derive(Clone, Copy)]
 pub struct Begun {
     pub number: u32,

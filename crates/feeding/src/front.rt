@@ -8,6 +8,7 @@ use plan::RECORD_BYTES;
 use stream::{append, is_mark};
 
 // The bytes of the plan part so far, how many bytes of the piece were used, and whether the mark was among them.
+// Length and bytes used are answered with the mark and without: so no Option.
 #[derive(Clone, Copy)]
 pub struct Part {
     pub length: u64,

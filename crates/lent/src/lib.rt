@@ -19,6 +19,7 @@ pub const LIST_ROOM: usize = 4096;
 
 // What judging a list answers: a reply number with the place that it is about, kept, or the place of the first broken
 // bound. Places in the list are counted from 0.
+// Three outcomes, each with its own values: so no Result.
 #[derive(Clone, Copy)]
 pub enum Judged {
     Refused(u32, usize),

@@ -15,6 +15,7 @@ use records::{no_records, one_if};
 use vee::{Answer, test};
 
 // The lighter plan, how many records were dropped and their numbers in the plan as it came in, in order. Room past the last number is 0.
+// A room with its length beside it: the project has no heap.
 #[derive(Clone, Copy)]
 pub struct Lighter {
     pub plan: Plan,

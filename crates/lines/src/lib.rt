@@ -79,6 +79,7 @@ fn with_word(line: Line, word: u64) -> Line
 {
     let mut next = line;
     let mut left = word;
+    // By division: no index is counted.
     while left != 0 {
         let at = next.len;
         next.bytes[at] = (left % 256) as u8;
@@ -104,6 +105,7 @@ fn digits_of(n: u64) -> Digits
     let mut from = DIGITS - 1;
     digits[from] = last_digit(left);
     left = left / 10;
+    // By division: no index is counted.
     while left != 0 {
         from -= 1;
         digits[from] = last_digit(left);

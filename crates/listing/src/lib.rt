@@ -40,6 +40,7 @@ fn line_at(text: &[u8], at: usize) -> Line
     let mut cells = [none; CELLS];
     let mut words: usize = 0;
     let mut from = at;
+    // It goes on to where the word ends: no index is counted.
     loop {
         let found = word_at(text, from);
         if found.word.seen.count == 0 {
@@ -74,6 +75,7 @@ fn scan(text: &[u8]) -> Result<usize, Refused>
     let mut lines: usize = 0;
     let mut records: usize = 0;
     let mut at: usize = 0;
+    // It goes on to where the line ends: no index is counted.
     while at < n {
         let line = line_at(text, at);
         lines += 1;
@@ -145,6 +147,7 @@ fn write(text: &[u8], out: &mut [u8])
     let n = text.len();
     let mut to: usize = 0;
     let mut at: usize = 0;
+    // It goes on to where the line ends: no index is counted.
     while at < n {
         let line = line_at(text, at);
         if let Ok(said) = line.said {

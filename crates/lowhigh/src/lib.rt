@@ -33,6 +33,7 @@ pub struct Tables {
 
 // What one record says: whether it keeps its first point shut, before which minute it keeps that point, and past which
 // minute, 100,000 up, it does not let its second point come.
+// Three facts of any record, none of which is there only with another: so no Option.
 #[derive(Clone, Copy)]
 pub struct Said {
     pub shuts: bool,

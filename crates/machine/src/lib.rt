@@ -23,6 +23,7 @@ pub use plan_part::plan_turn;
 
 // Whether the plan part is over, and then the plan's refusal, or 0; the bytes of the plan part so far; the number of the next event; the
 // plan's links and ponds; how many bytes of the last piece were used; and where its lines end.
+// It is fed on, refused or not, and `Turned`, `Feeds` and `Finishes` are stated of all its parts: so no Result.
 #[derive(Clone, Copy)]
 pub struct Stage {
     pub begun: bool,

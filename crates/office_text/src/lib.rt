@@ -19,6 +19,7 @@ pub const BROKEN_QUOTING: u32 = 40;
 
 // What is known of a text that has come so far: a number and the first bad line, which stand; or number 0, the lines that are whole
 // and their records, and of the line that has begun its commas, its columns and where it is.
+// It is fed on, refused or not, and keeps its line: so no Result.
 #[derive(Clone, Copy)]
 pub struct Feeding {
     pub number: u32,
@@ -86,6 +87,7 @@ pub fn feed(state: Feeding, piece: &[u8]) -> Feeding
     let mut cells = state.cells;
     let mut spot = state.spot;
     let mut i: usize = 0;
+    // It goes on to where the field ends: no index is counted.
     while i < n {
         let gone = walk_from(piece, i, spot);
         let here = gone.spot;

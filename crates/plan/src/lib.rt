@@ -37,6 +37,7 @@ pub const TOO_LONG: u32 = 3;
 pub const NO_ROOM: u32 = 12;
 
 // A plan is its first `count` records, in file order. What stands in the room after them counts for nothing.
+// A room with its length beside it: the project has no heap.
 #[derive(Clone, Copy)]
 pub struct Plan {
     pub count: u32,
@@ -44,6 +45,7 @@ pub struct Plan {
 }
 
 // A reply number and the record that it is about; number 0 where nothing is refused.
+// `check_of` answers one for every plan, and the theorems speak of its number 0: so no Result.
 #[derive(Clone, Copy)]
 pub struct Refusal {
     pub number: u32,

@@ -36,6 +36,7 @@ pub const ORDINARY: u8 = 3;
 pub const WAIT: u8 = 4;
 
 // A record of a plan file, of any of the four kinds: byte 0, bytes 1 and 2, the two numbers, the pond code.
+// A record of any bytes has a kind, which the rules match as a number: so no enum.
 #[derive(Clone, Copy)]
 pub struct Record {
     pub kind: u8,

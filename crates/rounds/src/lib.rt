@@ -148,6 +148,7 @@ pub fn settle(
 {
     let mut before = total(&*t);
     let mut more = true;
+    // It goes on until nothing falls: no index is counted.
     while more {
         round(&mut *t, sheet, durations, n, m);
         let after = total(&*t);

@@ -10,6 +10,7 @@ use tables::{Part, ROOM, SIDE, begin, close, offer_of};
 
 // A row has the record's kind, the points that it joins, from and to, its two numbers, and its second point. The sheet holds 32 bits of
 // each, which is all that a record has.
+// The rows are a lent room of numbers, kind and all, of the C interface: so no enum.
 #[derive(Clone, Copy)]
 pub struct Row {
     pub kind: u64,

@@ -26,6 +26,7 @@ pub struct Marks {
 }
 
 // What an event does: a reply number with the record that it is about, the clock and the marks after it.
+// What a refusal hands back is part of the answer, as in `Taken`: so no Result.
 #[derive(Clone, Copy)]
 pub struct Step {
     pub number: u32,

@@ -21,6 +21,7 @@ use plan::{ACCEPTED, ORDINARY, Plan, Record, Refusal, WAIT, check, split, used};
 pub const NOT_ALL_DONE: u32 = 31;
 
 // What the verdict is: a refusal, kept, or the number in the file of the first broken record.
+// Three outcomes, each with its own values: so no Result.
 #[derive(Clone, Copy)]
 pub enum Verdict {
     Refused(u32, u32),

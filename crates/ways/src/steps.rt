@@ -31,6 +31,7 @@ pub const NO_STEP: Step = Step {
 pub const MOST_STEPS: usize = SIDE;
 
 // The steps of a way, so many of them; the room after them is zero.
+// A room with its length beside it: the project has no heap.
 #[derive(Clone, Copy)]
 pub struct Way {
     pub count: usize,

@@ -85,6 +85,7 @@ fn reach(
     order[y] = 1;
     let mut count: u32 = 1;
     let mut k = search(all, &order, sheet, durations, m, y);
+    // It goes on until the search finds nothing: no index is counted.
     while k < 2 * m {
         let step = step_at(sheet, durations, k);
         let from = step.from;
@@ -104,6 +105,7 @@ fn follow(order: [u32; SIDE], next: [Step; SIDE], x: usize) -> Way
     let mut steps = no_steps();
     let mut count: usize = 0;
     let mut here = x;
+    // It goes on from step to step: no index is counted.
     while 1 < order[here] {
         let step = next[here];
         steps[count] = step;

@@ -7,17 +7,17 @@ use native.Mathlib.Omega.{arith}
 use native.Mathlib.Numerals.{add-one}
 use lib.Dec.{ltb}
 use borrow.Author.Tests.{lt-ltb, le-ltb}
-use lib.ListN.{length, get_or, drop}
+use lib.ListN.{length, drop}
 use lib.Seq.{drop-cons, drop-length}
 use Rattle.std.specs.Prelude.{if◌then◌else◌}
 use Rattle.plan.specs.Limits.{most_points, most_records, record_bytes}
-use Rattle.plan.specs.APlan.{points, links, records_of}
+use Rattle.plan.specs.APlan.{points, records_of}
 use Rattle.plan.specs.ReplyNumbers.{check_of}
 use Rattle.plan.specs.declared.Plan.{Plan}
 use Rattle.rows.specs.Sheet.{by}
 use Rattle.network.specs.Projection.{InBounds}
 use Rattle.vee.specs.PlanTest.{net_of, spans, many, unset, most_projections}
-use Rattle.vee.specs.Walked.{spans_in, WalkReady}
+use Rattle.vee.specs.Walked.{spans_in}
 use Rattle.vee.proofs.Walks.{as_many}
 use Rattle.vee.proofs.Testing.{accepted_plan, links_are, may_count, may_walk}
 use Rattle.vee.proofs.Yes.{each_in_bounds}
@@ -30,7 +30,6 @@ use Rattle.projection_runs.proofs.Going.{few_of_run, rooms_ready}
 use Rattle.all_runs.specs.WorstRun.{projections_of, projection_at, Finish, worse, worst_from, worst_of_all}
 use Rattle.all_runs.specs.Coded.{AllReady, WorstAsks, worse_found, FoundOf}
 use Rattle.all_runs.specs.declared.Found.{Found}
-use Rattle.all_runs.proofs.AWorse.{first_of_equal}
 use Rattle.steps.specs.Found.{RoomsOf}
 use Rattle.choices.proofs.Decoding.{projection_chosen}
 

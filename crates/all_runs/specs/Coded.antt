@@ -1,6 +1,6 @@
 -- What the functions on all projections of a plan laid out in rows ask and answer. A reader of the rules can leave this page out.
 -- Assumes nothing.
-use Rattle.std.specs.Prelude.{◌≡◌, List, ◌++◌, ℕ, ◌*◌, ◌≤◌, ltb, length, drop, if◌then◌else◌}
+use Rattle.std.specs.Prelude.{◌≡◌, Result, Ok, Err, List, ◌++◌, ℕ, ◌*◌, ◌≤◌, ltb, length, drop, if◌then◌else◌}
 use Rattle.plan.specs.Limits.{record_bytes}
 use Rattle.plan.specs.APlan.{points, links, records_of}
 use Rattle.plan.specs.declared.Plan.{Plan}
@@ -11,17 +11,15 @@ use Rattle.steps.specs.Events.{SheetOf}
 use Rattle.projection_runs.specs.ProjectionRuns.{events_of_run, bytes_of_all}
 use Rattle.projection_runs.specs.Coded.{RunReady}
 use Rattle.all_runs.specs.WorstRun.{worst_of_all}
-use Rattle.all_runs.specs.declared.Put.{Put}
+use Rattle.plan.specs.ReplyNumbers.{refusal}
+use Rattle.plan.specs.declared.Refusal.{Refusal}
 use Rattle.all_runs.specs.declared.Found.{Found}
 
 -- ---- a day
 
-abbrev pub put : ℕ → ℕ → Put
-put number events = record { number = number; events = events }
-
 -- how many events there are, or 12 where the buffer is shorter than they are; and what the buffer holds then
-abbrev pub day_for : List plays.Event → List ℕ → Put
-day_for es out = if ltb (length out) (record_bytes * length es) then put 12 0 else put 0 (length es)
+abbrev pub day_for : List plays.Event → List ℕ → Result ℕ Refusal
+day_for es out = if ltb (length out) (record_bytes * length es) then Err (refusal 12 0) else Ok (length es)
 
 abbrev pub written_for : List plays.Event → List ℕ → List ℕ
 written_for es out = if ltb (length out) (record_bytes * length es) then out else bytes_of_all es ++ drop (record_bytes * length es) out
@@ -32,7 +30,7 @@ pub record DayAsks (s : List ℕ) (m n : ℕ) (w : List ℕ) : Type 0 where
   pub ready : RunReady plan s m n w
 
 -- what is answered of each such plan
-pub record DayAs (s : List ℕ) (m n : ℕ) (w out out' : List ℕ) (d : Put) : Type 0 where
+pub record DayAs (s : List ℕ) (m n : ℕ) (w out out' : List ℕ) (d : Result ℕ Refusal) : Type 0 where
   pub reply : (p : Plan) → RunReady p s m n w → d ≡ day_for (events_of_run p w) out
   pub written : (p : Plan) → RunReady p s m n w → out' ≡ written_for (events_of_run p w) out
 

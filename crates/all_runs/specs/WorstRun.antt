@@ -1,6 +1,6 @@
 -- Document 02, §13, "Worst finishing minute": the largest finishing minute over all projections, and the first projection that
 -- reaches it. Assumes nothing.
-use Rattle.std.specs.Prelude.{List, [], ◌∷◌, ℕ, suc, ltb, leb, get_or, if◌then◌else◌}
+use Rattle.std.specs.Prelude.{List, [], ◌∷◌, ℕ, suc, ltb, get_or, if◌then◌else◌}
 use Rattle.plan.specs.APlan.{records_of}
 use Rattle.plan.specs.declared.Plan.{Plan}
 use Rattle.vee.specs.PlanTest.{spans, projections, unset}

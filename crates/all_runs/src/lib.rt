@@ -3,14 +3,15 @@
 
 #![tactic(auto)]
 
-ghost use Rattle.std.specs.Prelude.{◌≡◌, ◌++◌, ◌*◌, ◌≤◌, ltb, length, take, drop, if◌then◌else◌};
+ghost use Rattle.std.specs.Prelude.{◌≡◌, ◌++◌, ◌*◌, ◌≤◌, Ok, Err, ltb, length, take, drop, if◌then◌else◌};
 ghost use Rattle.plan.specs.Limits.{most_points, record_bytes};
-ghost use Rattle.all_runs.specs.Coded.{put, DayAsks, DayAs, WorstAsks, worse_found, FoundOf};
+ghost use Rattle.plan.specs.ReplyNumbers.{refusal};
+ghost use Rattle.all_runs.specs.Coded.{DayAsks, DayAs, WorstAsks, worse_found, FoundOf};
 
 use choices::chosen;
 use kept::KEPT;
 use neighbours::LIST;
-use plan::{ACCEPTED, NO_ROOM};
+use plan::{NO_ROOM, Refusal};
 use projection_runs::{LOG, run};
 use records::RECORD_BYTES;
 use rows::SHEET;
@@ -62,31 +63,21 @@ pub fn worst_run(sheet: &[u32; SHEET], m: usize, n: u32, links: usize, many: u32
     found
 }
 
-// A reply number, 0 where the events are put, and how many there are.
-#[derive(Clone, Copy)]
-pub struct Put {
-    pub number: u32,
-    pub events: u32,
-}
-
 // The first events of a log into the front of the buffer, or 12 where it is too short for them.
-fn put_events(log: &[u8], events: u32, buffer: &mut [u8]) -> Put
+fn put_events(log: &[u8], events: u32, buffer: &mut [u8]) -> Result<u32, Refusal>
     requires { (events ≤ most_points) × (record_bytes * events ≤ length log.now) }
-    ensures reply { result ≡ (if ltb (length buffer.old) (record_bytes * events) then put 12 0 else put 0 events) }
+    ensures reply { result ≡ (if ltb (length buffer.old) (record_bytes * events) then Err (refusal 12 0) else Ok events) }
     ensures buffer { buffer.new ≡ (if ltb (length buffer.old) (record_bytes * events) then buffer.old else take (record_bytes * events) log.now ++ drop (record_bytes * events) buffer.old) }
 {
     let n = RECORD_BYTES * events as usize;
     if buffer.len() < n {
-        return Put {
+        return Err(Refusal {
             number: NO_ROOM,
-            events: 0,
-        };
+            place: 0,
+        });
     }
     buffer[..n].copy_from_slice(&log[..n]);
-    Put {
-        number: ACCEPTED,
-        events: events,
-    }
+    Ok(events)
 }
 
 // The events of a run into the front of the buffer, or 12 where it is too short for them.
@@ -96,7 +87,7 @@ pub fn write_day(
     n: u32,
     durations: &[u64; SIDE],
     buffer: &mut [u8],
-) -> Put
+) -> Result<u32, Refusal>
     requires { DayAsks sheet.now m n durations.now }
     ensures { DayAs sheet.now m n durations.now buffer.old buffer.new result }
 {

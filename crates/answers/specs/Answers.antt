@@ -1,11 +1,11 @@
 -- The lines of the program `desk`: `worst MINUTE PROJECTION`; a refusal is the verb and the number, where the plan itself has been
 -- read. A word is the codes of its letters to the base 256, the first letter lowest. Assumes nothing.
-use Rattle.std.specs.Prelude.{[], ◌∷◌, ℕ}
+use Rattle.std.specs.Prelude.{Result, Ok, Err, [], ◌∷◌, ℕ}
 use Rattle.lines.specs.Text.{said}
 use Rattle.lines.specs.declared.Line.{Line}
 use Rattle.lines.specs.declared.Piece.TheVariants.{Name, Number}
-use Rattle.worst.specs.declared.Worst.{Worst}
-use Rattle.worst.specs.declared.Worst.TheVariants.{Refused, At}
+use Rattle.plan.specs.declared.Refusal.{Refusal}
+use Rattle.worst.specs.WorstMinute.{Found}
 
 abbrev pub worst_word : ℕ
 worst_word = 0x7473726f77
@@ -32,9 +32,9 @@ abbrev pub line_word : ℕ
 line_word = 0x656e696c
 
 -- worst MINUTE PROJECTION, worst NUMBER
-abbrev pub worst_line : Worst → Line
-worst_line (At t i) = said (Name worst_word) (Number t ∷ Number i ∷ [])
-worst_line (Refused n i) = said (Name worst_word) (Number n ∷ [])
+abbrev pub worst_line : Result Found Refusal → Line
+worst_line (Ok f) = said (Name worst_word) (Number f.minute ∷ Number f.projection ∷ [])
+worst_line (Err x) = said (Name worst_word) (Number x.number ∷ [])
 
 -- day NUMBER
 abbrev pub day_refused : ℕ → Line

@@ -6,7 +6,8 @@ ghost use Rattle.std.specs.Prelude.{◌≡◌};
 ghost use Rattle.answers.specs.Answers.{worst_line, day_refused, import_refused, close_refused, lighter_refused, dropped_line, calendar_refused, line_number};
 
 use lines::{Line, number, numbers};
-use worst::Worst;
+use plan::Refusal;
+use worst::Found;
 
 // The words of the lines: the ASCII codes of their letters, the first in the lowest byte.
 const WORST: u64 = 0x7473726f77;
@@ -26,12 +27,12 @@ const CALENDAR: u64 = 0x7261646e656c6163;
 const LINE: u64 = 0x656e696c;
 
 // `worst MINUTE PROJECTION`, or `worst NUMBER` for a plan that has been read.
-pub fn worst_line(answer: Worst) -> Line
+pub fn worst_line(answer: Result<Found, Refusal>) -> Line
     ensures { result ≡ worst_line answer }
 {
     match answer {
-        Worst::At(minute, projection) => numbers(WORST, minute as u64, projection as u64),
-        Worst::Refused(n, _) => number(WORST, n),
+        Ok(found) => numbers(WORST, found.minute as u64, found.projection as u64),
+        Err(refusal) => number(WORST, refusal.number),
     }
 }
 

@@ -1,10 +1,9 @@
 -- The words of the program `desk`, behind its name: a verb, and what it is asked. "Words that are numbers are decimal digits,
 -- zeros in front allowed; what does not fit 32 bits is wrong usage." Words are bytes, ASCII codes. Assumes nothing.
-use Rattle.std.specs.Prelude.{Bool, true, false, ◌&&◌, not, List, [], ◌∷◌, ℕ, ◌^◌, eqb, ltb, if◌then◌else◌}
+use Rattle.std.specs.Prelude.{Bool, ◌&&◌, not, List, [], ◌∷◌, Option, Some, None, ℕ, ◌^◌, eqb, ltb, if◌then◌else◌}
 use Rattle.values.specs.Values.{same, is_empty, all_digits, value_from}
 use Rattle.asks.specs.declared.Asked.{Asked}
 use Rattle.asks.specs.declared.Asked.TheVariants.{Test, Worst, Day, Import, Close, Lighter, Pack, Listing, Explain, Calendar, Nothing}
-use Rattle.asks.specs.declared.Number.{Number}
 
 -- test, worst, day, import, close, lighter, pack, list, explain, calendar
 abbrev pub test_verb : List ℕ
@@ -63,8 +62,8 @@ unfoldable pub dated : List ℕ → Asked
 dated f = if same f calendar_verb then Calendar else Nothing
 
 -- the number that a word is, where it is one
-unfoldable pub number_of : List ℕ → Number
-number_of f = if is_count f then record { given = true; value = value_from 0 f } else record { given = false; value = 0 }
+unfoldable pub number_of : List ℕ → Option ℕ
+number_of f = if is_count f then Some (value_from 0 f) else None
 
 -- n words in all, the program's name the first of them, f and g the next two
 unfoldable pub asked_of : ℕ → List ℕ → List ℕ → Asked

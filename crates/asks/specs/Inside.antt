@@ -1,16 +1,16 @@
 -- The same by what is known of a word when its bytes have gone by. A reader of the words can leave this page out. Assumes nothing.
-use Rattle.std.specs.Prelude.{Bool, true, false, ◌&&◌, not, ℕ, ◌%◌, eqb, ltb, if◌then◌else◌}
+use Rattle.std.specs.Prelude.{Bool, ◌&&◌, Option, Some, None, ℕ, ◌%◌, if◌then◌else◌}
+use Rattle.values.specs.Inside.{word_in, below_in}
 use Rattle.values.specs.declared.Seen.{Seen}
 use Rattle.asks.specs.declared.Asked.{Asked}
 use Rattle.asks.specs.declared.Asked.TheVariants.{Test, Worst, Day, Import, Close, Lighter, Pack, Listing, Explain, Calendar, Nothing}
-use Rattle.asks.specs.declared.Number.{Number}
 
 -- so many letters, as one number to the base 256
 abbrev pub is_verb : ℕ → ℕ → Seen → Bool
-is_verb n w s = eqb s.count n && eqb s.word w
+is_verb n w s = word_in n w s
 
 abbrev pub count_in : Seen → Bool
-count_in s = not (eqb s.count 0) && ((s.digits && not s.minus) && ltb s.size 4294967296)
+count_in s = below_in 4294967296 s
 
 unfoldable pub typing_in : Seen → Asked
 typing_in s =
@@ -34,5 +34,5 @@ counted_in s n = if is_verb 3 0x646179 s && count_in n then Day (n.size % 429496
 unfoldable pub dated_in : Seen → Asked
 dated_in s = if is_verb 8 0x63616c656e646172 s then Calendar else Nothing
 
-unfoldable pub number_in : Seen → Number
-number_in s = if count_in s then record { given = true; value = s.size % 4294967296 } else record { given = false; value = 0 }
+unfoldable pub number_in : Seen → Option ℕ
+number_in s = if count_in s then Some (s.size % 4294967296) else None

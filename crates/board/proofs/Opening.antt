@@ -20,7 +20,7 @@ use Rattle.windows.specs.Inside as windows
 use Rattle.windows.specs.declared.Windows.{Windows}
 use Rattle.board.specs.Windows.{is_open, high, least_high, H}
 use Rattle.board.specs.InsideReplies.{Ready, WindowsOf}
-use Rattle.board.proofs.Theorems.Soundness.{Sound, sound_means}
+use Rattle.board.proofs.Theorems.Soundness.{sound_means}
 use Rattle.board.specs.declared.Board.{Board}
 
 -- what the windows ask

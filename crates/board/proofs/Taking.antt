@@ -1,31 +1,28 @@
 -- Taking an event: the tests of its set on a plan's links say what the rules say, and so do those of its point on the
 -- windows; then the number of the whole event, and the board after it. Assumes nothing.
-use mathlib.Core.Path.{◌≡◌, refl, sym, ap, ◌∙◌}
-use mathlib.Core.Bool.{Bool, true, false, not, cond, ◌&&◌, ◌||◌, true≢false}
-use mathlib.Core.List.{List, ◌∷◌}
-use Prim.Native.Nat.{ℕ, zero, suc, ◌+◌, ◌-◌, ◌≤◌, ◌<◌, min}
+use mathlib.Core.Path.{◌≡◌, refl, ap, ◌∙◌}
+use mathlib.Core.Bool.{Bool, true, false, not, ◌&&◌, ◌||◌}
+use mathlib.Core.List.{List}
+use Prim.Native.Nat.{ℕ, ◌+◌, ◌-◌, ◌≤◌, min}
 use native.Mathlib.Omega.{arith}
 use lib.Dec.{eqb, ltb, leb}
-use lib.ListN.{length, get_or}
-use borrow.Author.Tests.{eqb-true, eqb-false, ltb-true, lt-ltb, eq-eqb, ne_eqb}
-use Rattle.points.specs.Sets.{member, members_of, from, passing, every, below_of, subset_of}
+use lib.ListN.{get_or}
+use borrow.Author.Tests.{eqb-true, eqb-false, ltb-true}
+use Rattle.points.specs.Sets.{member}
 use Rattle.std.specs.Prelude.{if◌then◌else◌}
-use Rattle.plan.specs.Limits.{most_points, farthest, record_bytes}
-use Rattle.plan.specs.APlan.{points, watched, link_to}
-use Rattle.plan.specs.PlanFile.{word_at}
+use Rattle.plan.specs.Limits.{most_points, farthest}
+use Rattle.plan.specs.APlan.{points}
 use Rattle.records.specs.declared.Record.{Record}
-use Rattle.board.specs.Boards.{is_done, running}
 use Rattle.board.specs.Windows.{is_open, low, some_open}
 use Rattle.board.specs.Stuck.{finished, stuck, latest}
-use Rattle.board.specs.Events.{event_minute, event_point, event_set, no_point, well_formed, ends_running, in_time, event_number, event_record}
+use Rattle.board.specs.Events.{event_minute, event_point, event_set, no_point, well_formed, event_number, event_record}
 use Rattle.lowhigh.specs.Rules.{beside}
-use Rattle.links.specs.Inside.{LinksOf, runs_at, timely_at, set_number}
+use Rattle.links.specs.Inside.{set_number}
 use Rattle.events.proofs.Forming.{formed_point}
 use Rattle.windows.specs.Inside.{latest_from, point_from, later_number, Numbered}
 use Rattle.board.specs.Inside.{point_number}
 use Rattle.board.specs.InsideReplies.{WindowsOf}
 use Rattle.board.specs.declared.Board.{Board}
-use Rattle.links.specs.declared.Links.{Links}
 use Rattle.windows.specs.declared.Windows.{Windows}
 use Rattle.board.proofs.Opening.{windows_here}
 use Rattle.board.proofs.Replying.{nothing_open, something_open, stuck_here}

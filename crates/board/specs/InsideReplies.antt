@@ -1,6 +1,6 @@
 -- What the functions behind the windows compute. A reader of the rules can leave this page out: the open
 -- functions' contracts do not cite it. Assumes nothing.
-use Rattle.std.specs.Prelude.{◌≡◌, true, not, List, ℕ, ◌^◌, ◌<◌, length, get_or}
+use Rattle.std.specs.Prelude.{◌≡◌, true, List, ℕ, ◌^◌, ◌<◌, length, get_or}
 use Rattle.points.specs.Sets.{member}
 use Rattle.plan.specs.Limits.{most_points}
 use Rattle.plan.specs.APlan.{records_of}

@@ -1,7 +1,7 @@
 -- A stream of events on one plan: each goes on from the board that the one before handed back. Document 01, "The printing
 -- program", needs of each its number, and the clock and the done points of the board handed back; document 02, §6, the record
 -- beside the number. Assumes nothing.
-use Rattle.std.specs.Prelude.{Bool, not, List, [], ◌∷◌, ◌++◌, ℕ, zero, suc, ◌*◌, ◌/◌, min, eqb, length, take, drop, if◌then◌else◌}
+use Rattle.std.specs.Prelude.{not, List, [], ◌∷◌, ◌++◌, ℕ, zero, suc, ◌*◌, ◌/◌, min, eqb, length, take, drop, if◌then◌else◌}
 use Rattle.plan.specs.Limits.{record_bytes}
 use Rattle.plan.specs.APlan.{records_of}
 use Rattle.plan.specs.ReplyNumbers.{check_of}

@@ -2,14 +2,13 @@
 -- are the plan's records, b the board. What a record says of q by the clock, the done set and the minutes is said in `Rules` of `lowhigh`.
 -- High and H can be below zero, so both are kept 100,000 up; where there is none, they are past every minute. Assumes
 -- nothing.
-use Rattle.std.specs.Prelude.{Bool, not, ◌||◌, List, [], ◌∷◌, ℕ, ◌+◌, min, ltb, if◌then◌else◌}
+use Rattle.std.specs.Prelude.{Bool, not, ◌||◌, List, [], ◌∷◌, ℕ, ◌+◌, min, ltb, if◌then◌else◌, Option}
 use Rattle.points.specs.Sets.{from, every}
 use Rattle.plan.specs.Limits.{most_points, farthest}
 use Rattle.records.specs.declared.Record.{Record}
 use Rattle.lowhigh.specs.Rules as lowhigh
 pub use Rattle.lowhigh.specs.Rules.{never}
 unfoldable pub use Rattle.lowhigh.specs.Rules.{place_from, greatest, least}
-use Rattle.plan.specs.declared.Found.{Found}
 use Rattle.board.specs.declared.Board.{Board}
 
 -- the record r keeps q shut: an ordinary one from q with negative d to a point not done, or a wait on q whose A is not
@@ -22,7 +21,7 @@ abbrev pub foremans : List Record → Board → ℕ → Bool
 foremans rs b q = lowhigh.foremans rs b.done q
 
 -- the first record in file order that keeps q shut, if one does
-abbrev pub shut_by : List Record → Board → ℕ → Found
+abbrev pub shut_by : List Record → Board → ℕ → Option ℕ
 shut_by rs b q = lowhigh.shut_by rs b.done q
 
 -- its number in the plan's file, and 0 for none: record 0 is always a point's

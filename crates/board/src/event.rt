@@ -23,8 +23,8 @@ pub fn after(board: Board, e: Event, n: u32) -> Board
     let calls = board.calls;
     let marks = Marks {
         done: board.done,
-        minutes: minutes,
-        calls: calls,
+        minutes,
+        calls,
     };
     let next = taking::after(marks, e, n);
     let minutes_then = next.minutes;
@@ -41,9 +41,9 @@ pub fn answer(number: u32, place: u32, board: Board) -> Taken
     ensures { result ≡ taken number place board }
 {
     Taken {
-        number: number,
-        place: place,
-        board: board,
+        number,
+        place,
+        board,
     }
 }
 
@@ -57,8 +57,8 @@ pub fn take_from(links: Links, board: Board, w: Windows, event: &[u8]) -> Taken
     let calls = board.calls;
     let marks = Marks {
         done: board.done,
-        minutes: minutes,
-        calls: calls,
+        minutes,
+        calls,
     };
     let step = step_from(links, board.clock, marks, w, event);
     let next = step.marks;

@@ -36,6 +36,7 @@ pub struct Board {
 pub const ROOM: usize = history::ROOM;
 
 // What taking an event answers: a reply number with the record that it is about, and the next board.
+// The rules ask for a number beside the board that is handed back, refused or not (`take_of`): so no Result.
 #[derive(Clone, Copy)]
 pub struct Taken {
     pub number: u32,

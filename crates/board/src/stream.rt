@@ -8,7 +8,7 @@ ghost use Rattle.board.specs.InsideReplies.{Ready};
 use crate::event::{answer, take_next};
 use crate::sound::is_sound_by;
 use crate::{Board, Taken, UNSOUND};
-use events::{fewer, put_four};
+use events::put_four;
 use links::{Links, links_by};
 use plan::{ACCEPTED, Plan, RECORD_BYTES, check};
 
@@ -29,8 +29,7 @@ fn take_each(
     ensures room { room.new ≡ said_of plan board (events_in n events.now) ++ drop (said_numbers * n) room.old }
 {
     let mut now = board;
-    let mut i: usize = 0;
-    while i < n {
+    for i in 0..n {
         let at = RECORD_BYTES * i;
         let taken = take_next(plan, now, links, &events[at..at + RECORD_BYTES]);
         now = taken.board;
@@ -42,7 +41,6 @@ fn take_each(
             now.clock,
             now.done,
         );
-        i += 1;
     }
     now
 }
@@ -61,7 +59,7 @@ impl Board {
         if !is_sound_by(self, links) {
             return answer(UNSOUND, 0, self);
         }
-        let n = fewer(events.len() / RECORD_BYTES, room.len() / SAID);
+        let n = (events.len() / RECORD_BYTES).min(room.len() / SAID);
         answer(ACCEPTED, 0, take_each(plan, self, links, events, n, room))
     }
 }

@@ -16,23 +16,17 @@ pub struct Bound {
     pub bound: i32,
 }
 
-fn wide(x: u32) -> u64
-    ensures { result ≡ x }
-{
-    x as u64
-}
-
 // The minute `to` is at most `bound` after the minute `from`.
 pub fn bound_kept(from: u32, bound: i32, to: u32) -> bool
     ensures { result ≡ bound_kept from bound to }
 {
     let gap = split(bound);
-    wide(to) + wide(gap.down) <= wide(from) + wide(gap.up)
+    u64::from(to) + u64::from(gap.down) <= u64::from(from) + u64::from(gap.up)
 }
 
 // Both points are in a plan of so many points.
 pub fn both_in(points: u32, from: u8, to: u8) -> bool
     ensures { result ≡ both_in points from to }
 {
-    ((from as u32) < points) & ((to as u32) < points)
+    (u32::from(from) < points) & (u32::from(to) < points)
 }

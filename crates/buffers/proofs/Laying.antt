@@ -1,10 +1,10 @@
 -- Text after text in a buffer, and room for it. Assumes nothing.
 use mathlib.Core.Path.{◌≡◌, sym, ap, ◌∙◌}
-use mathlib.Core.List.{List, [], ◌∷◌, ◌++◌, append_assoc, append-nil}
-use Prim.Native.Nat.{ℕ, suc, ◌+◌, ◌-◌, ◌≤◌, ◌<◌}
+use mathlib.Core.List.{List, [], ◌∷◌, ◌++◌, append_assoc}
+use Prim.Native.Nat.{ℕ, suc, ◌+◌, ◌≤◌, ◌<◌}
 use native.Mathlib.Omega.{arith}
-use lib.ListN.{length, take, drop, set, length-append, length-drop, drop_of_length-le, take-append-drop}
-use lib.Seq.{paste, length-take-le, take_at, drop_at, set_split, drop-drop, drop-cons, drop-set-add, take-set-le, take_all, take-length}
+use lib.ListN.{length, take, drop, set, length-append, length-drop, take-append-drop}
+use lib.Seq.{paste, length-take-le, take_at, drop_at, set_split, drop-drop, drop-cons, drop-set-add, take-set-le, take-length}
 use borrow.Rule.Slice.PartMut.{put_mid}
 use Rattle.buffers.specs.Inside.{laid, Room, Laid}
 

@@ -11,20 +11,14 @@ pub fn within(n: usize, bytes: &[u8]) -> usize
     ensures counts { IsPrefixLen result bytes.now }
     ensures least { result ≡ min n (length bytes.now) }
 {
-    if n < bytes.len() { n } else { bytes.len() }
+    n.min(bytes.len())
 }
 
 // Whether so many bytes more fit behind the first `at` of a buffer of some length.
 pub fn fits(length: usize, at: usize, more: usize) -> bool
     ensures { result ≡ leb (at + more) length }
 {
-    if length < at {
-        return false;
-    }
-    if length - at < more {
-        return false;
-    }
-    true
+    at <= length && more <= length - at
 }
 
 // The bytes behind the first `at` of the buffer, if they fit; answers where they end.
@@ -43,7 +37,5 @@ pub fn behind(lines: &mut [u8], waiting: usize, line: Line) -> usize
     ensures place { result ≡ end_of lines.old waiting (take (min line.len (length line.bytes)) line.bytes) }
     ensures bytes { lines.new ≡ appended lines.old waiting (take (min line.len (length line.bytes)) line.bytes) }
 {
-    let bytes = line.bytes;
-    let n = within(line.len, &bytes);
-    append(lines, waiting, &bytes[..n])
+    append(lines, waiting, line.text())
 }

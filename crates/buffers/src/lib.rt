@@ -11,9 +11,6 @@ mod ending;
 
 pub use ending::{append, behind, fits, within};
 
-// The code of the digit 0.
-pub const NOUGHT: u8 = 48;
-
 // A text as it is.
 pub fn put(out: &mut [u8], at: usize, text: &[u8]) -> usize
     requires { Room out.old at text.now }
@@ -30,6 +27,7 @@ pub fn digits_of(n: u32) -> usize
 {
     let mut k: usize = 1;
     let mut m = n;
+    // By division: no index is counted.
     while 10 <= m {
         m = m / 10;
         k += 1;
@@ -45,12 +43,13 @@ pub fn put_number(out: &mut [u8], at: usize, n: u32) -> usize
     let next = at + digits_of(n);
     let mut i = next - 1;
     let mut m = n;
+    // By division: no index is counted.
     while 10 <= m {
-        out[i] = NOUGHT + (m % 10) as u8;
+        out[i] = b'0' + (m % 10) as u8;
         m = m / 10;
         i = i - 1;
     }
-    out[i] = NOUGHT + (m as u8);
+    out[i] = b'0' + (m as u8);
     next
 }
 

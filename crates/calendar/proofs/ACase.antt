@@ -11,7 +11,7 @@ use Rattle.values.specs.Ascii.{ascii}
 use Rattle.lines.specs.Text.{digits}
 use Rattle.records.specs.declared.Record.{Record}
 use Rattle.plan.specs.APlan.{plan_of, how_many, some, first_that}
-use Rattle.plan.specs.ReplyNumbers.{check_with, first_bad_with, number_for_with, last_kind}
+use Rattle.plan.specs.ReplyNumbers.{refusal, check_with, first_bad_with, number_for_with, last_kind}
 use Rattle.board.specs.Boards.{fresh, sound, each, largest}
 use Rattle.board.specs.Calls.{numbered}
 use Rattle.board.specs.Events.{mark_all}
@@ -21,8 +21,9 @@ use Rattle.verdict.specs.Verdicts.{ended_of}
 use Rattle.dates.specs.Gregorian.{leap, days_in, is_date, next_day, days_later, is_origin, shown}
 use Rattle.dates.specs.declared.Stamp.{Stamp}
 use Rattle.moments.specs.Event.{event_text}
-use Rattle.calendar.specs.Calendars.{events_of, calendar_text, answer, calendar_of}
-use Rattle.calendar.specs.declared.Calendar.{Calendar}
+use Rattle.calendar.specs.Calendars.{events_of, calendar_text, calendar_of}
+use Rattle.plan.specs.declared.Refusal.{Refusal}
+use Rattle.std.specs.Prelude.{Result, Ok, Err}
 
 -- two points, the second of pond 7
 abbrev pair : List Record
@@ -51,14 +52,14 @@ unfolding calendar_text events_of event_text digits mark_all with_of member how_
 a_sheet = refl
 
 -- what a sheet of two points answers
-abbrev asked : Board → Stamp → ℕ → Calendar
+abbrev asked : Board → Stamp → ℕ → Result ℕ Refusal
 asked b origin room = calendar_of (plan_of pair) b origin (replicate room 0)
 
 -- 20 before 31, 31 before 51, 51 before 52; and a buffer that is just long enough
-in_order_lem : (asked odd none 0 ≡ answer 20 0 0)
-    × (asked fresh none 0 ≡ answer 31 0 0)
-    × (asked over none 0 ≡ answer 51 0 0)
-    × (asked over evening 315 ≡ answer 52 0 0)
-    × (asked over evening 316 ≡ answer 0 0 316)
+in_order_lem : (asked odd none 0 ≡ Err (refusal 20 0))
+    × (asked fresh none 0 ≡ Err (refusal 31 0))
+    × (asked over none 0 ≡ Err (refusal 51 0))
+    × (asked over evening 315 ≡ Err (refusal 52 0))
+    × (asked over evening 316 ≡ Ok 316)
 unfolding calendar_of calendar_text events_of event_text digits ended_of check_with first_bad_with number_for_with last_kind how_many some first_that sound numbered each largest member members_of with_of below_of subset_of from every passing ones mark_all leap days_in is_date next_day days_later is_origin shown
 in_order_lem = (refl, refl, refl, refl, refl)

@@ -3,6 +3,7 @@ use mathlib.Core.Path.{◌≡◌, refl, sym, ap, ◌∙◌}
 use mathlib.Core.List.{List, [], ◌∷◌, ◌++◌, append_assoc}
 use Prim.Native.Nat.{ℕ, zero, suc, ◌+◌, ◌-◌, ◌*◌, ◌^◌, ◌≤◌, ◌<◌}
 use native.Mathlib.Omega.{arith}
+use Rattle.std.specs.Prelude.{Ok}
 use borrow.Author.Tests.{eq-eqb}
 use lib.ListN.{length, take, drop}
 use Rattle.numbers.specs.Fits.{All}
@@ -17,7 +18,7 @@ use Rattle.verdict.proofs.Broken.{ended_accepted}
 use Rattle.moments.specs.Event.{uid_line}
 use Rattle.moments.proofs.Lengths.{summary_long}
 use Rattle.buffers.proofs.Digits.{few_below, to_hyphen, read_back}
-use Rattle.calendar.specs.Calendars.{pond_code, events_length, text_length, most_text, answer}
+use Rattle.calendar.specs.Calendars.{pond_code, events_length, text_length, most_text}
 use Rattle.calendar.specs.Promises.{ShortLines, DifferentUids, LengthOfText, Enough, ReachesMost, DifferentStarts, PointsFirst, LongestLine}
 use Rattle.calendar.proofs.Lengths.{text_long, few_points, text_parts}
 use Rattle.calendar.proofs.Lined as lined
@@ -82,7 +83,7 @@ pub enough : Enough
 enough p b origin out h ok o k =
     let l = text_long (records_of p) b origin in
     let w = written p b origin out (eq-eqb _ 0 ok) o (omega (arith, l, fits_most p h (ended_accepted p b ok))) in
-    sym w.0 ∙ ap (λ (n : ℕ). answer 0 0 n) l
+    sym w.0 ∙ ap Ok l
 
 pub reaches_most : ReachesMost
 unfolding text_length events_length how_many digits

@@ -1,10 +1,12 @@
 -- Document 02, §10, "Sheets in the crews' calendars": the text of a finished board, byte for byte, and what writing it
 -- answers. The lines of an event are said in `Event` of `moments`, the date that a minute shows in `Gregorian` of `dates`,
 -- the refusals 20 and 31 in `Verdicts` of `verdict`. Assumes nothing.
-use Rattle.std.specs.Prelude.{not, List, [], ◌++◌, ℕ, zero, suc, ◌+◌, eqb, ltb, length, drop, get_or, if◌then◌else◌}
+use Rattle.std.specs.Prelude.{not, List, Result, Ok, Err, [], ◌++◌, ℕ, zero, suc, ◌+◌, eqb, ltb, length, drop, get_or, if◌then◌else◌}
 use Rattle.values.specs.Ascii.{ascii}
 use Rattle.plan.specs.APlan.{points, blank, records_of}
+use Rattle.plan.specs.ReplyNumbers.{refusal}
 use Rattle.plan.specs.declared.Plan.{Plan}
+use Rattle.plan.specs.declared.Refusal.{Refusal}
 use Rattle.records.specs.declared.Record.{Record}
 use Rattle.board.specs.Boards.{minute}
 use Rattle.board.specs.declared.Board.{Board}
@@ -12,7 +14,6 @@ use Rattle.verdict.specs.Verdicts.{ended_of}
 use Rattle.dates.specs.Gregorian.{is_origin, shown}
 use Rattle.dates.specs.declared.Stamp.{Stamp}
 use Rattle.moments.specs.Event.{line, moment_text, event_text, event_length}
-use Rattle.calendar.specs.declared.Calendar.{Calendar}
 
 -- a date, hour and minute in the UTC form
 abbrev pub stamp_text : Stamp → List ℕ
@@ -59,20 +60,18 @@ text_length rs = length heading + events_length rs (points rs) + length ending
 abbrev pub most_text : ℕ
 most_text = 4_278
 
-abbrev pub answer : ℕ → ℕ → ℕ → Calendar
-answer n i k = record { number = n; place = i; length = k }
-
 -- "after 20 and 31, 51 for an origin that is no such date, 52 for too short a buffer"; else the text's length
-unfoldable pub calendar_of : Plan → Board → Stamp → List ℕ → Calendar
+unfoldable pub calendar_of : Plan → Board → Stamp → List ℕ → Result ℕ Refusal
 calendar_of p b origin out =
-    if not (eqb (ended_of p b).number 0) then answer (ended_of p b).number (ended_of p b).place 0
-    else (if not (is_origin origin) then answer 51 0 0
-    else (if ltb (length out) (length (calendar_text (records_of p) b origin)) then answer 52 0 0
-    else answer 0 0 (length (calendar_text (records_of p) b origin))))
+    if not (eqb (ended_of p b).number 0) then Err (ended_of p b)
+    else (if not (is_origin origin) then Err (refusal 51 0)
+    else (if ltb (length out) (length (calendar_text (records_of p) b origin)) then Err (refusal 52 0)
+    else Ok (length (calendar_text (records_of p) b origin))))
 
 -- the buffer after that: a refusal leaves it "untouched, as do bytes past an accepted text"
+abbrev pub left_by : Result ℕ Refusal → List ℕ → List ℕ → List ℕ
+left_by (Ok n) text out = text ++ drop (length text) out
+left_by (Err r) text out = out
+
 unfoldable pub written_of : Plan → Board → Stamp → List ℕ → List ℕ
-written_of p b origin out =
-    if eqb (calendar_of p b origin out).number 0 then
-    calendar_text (records_of p) b origin ++ drop (length (calendar_text (records_of p) b origin)) out
-    else out
+written_of p b origin out = left_by (calendar_of p b origin out) (calendar_text (records_of p) b origin) out

@@ -1,6 +1,6 @@
 -- What the inner functions compute, by the pond codes of points. A reader of the rules can leave this page out: the open functions'
 -- contracts do not cite it. Assumes nothing.
-use Rattle.std.specs.Prelude.{◌≡◌, List, ◌++◌, map, ℕ, ◌+◌, pos, length}
+use Rattle.std.specs.Prelude.{◌≡◌, Result, List, ◌++◌, map, ℕ, ◌+◌, pos, length}
 use Rattle.plan.specs.Limits.{most_points, most_records}
 use Rattle.plan.specs.APlan.{records_of}
 use Rattle.plan.specs.ReplyNumbers.{check_of}
@@ -12,7 +12,7 @@ use Rattle.links.specs.declared.Links.{Links}
 use Rattle.board.specs.declared.Board.{Board}
 use Rattle.dates.specs.declared.Stamp.{Stamp}
 use Rattle.calendar.specs.Calendars.{events_of, heading, ending, events_length, calendar_of, written_of}
-use Rattle.calendar.specs.declared.Calendar.{Calendar}
+use Rattle.plan.specs.declared.Refusal.{Refusal}
 
 -- a record with a pond code and nothing else
 abbrev pub coded_one : ℕ → Record
@@ -38,6 +38,6 @@ pub record SheetOf (p : Plan) (l : Links) (codes : List ℕ) : Type 0 where
   pub ponds : ForEach (pond_at p) 0 most_points codes
 
 -- the answer r, and the buffer `after` that was `out`, are those of every accepted plan with these links and pond codes
-pub record WrittenBy (l : Links) (codes : List ℕ) (b : Board) (origin : Stamp) (out : List ℕ) (r : Calendar) (after : List ℕ) : Type 0 where
+pub record WrittenBy (l : Links) (codes : List ℕ) (b : Board) (origin : Stamp) (out : List ℕ) (r : Result ℕ Refusal) (after : List ℕ) : Type 0 where
   pub reply : (p : Plan) → SheetOf p l codes → r ≡ calendar_of p b origin out
   pub bytes : (p : Plan) → SheetOf p l codes → after ≡ written_of p b origin out

@@ -1,6 +1,6 @@
 -- What is promised of calendars beside the text itself, in the words of document 02, §10; proofs/Theorems has the proofs.
 -- Definitions only; assumes nothing.
-use Rattle.std.specs.Prelude.{◌≡◌, Bool, true, ◌&&◌, List, [], ◌∷◌, ◌++◌, ℕ, ◌^◌, ◌≤◌, ◌<◌, leb, pos, length, get_or, replicate}
+use Rattle.std.specs.Prelude.{◌≡◌, Ok, Bool, true, ◌&&◌, List, [], ◌∷◌, ◌++◌, ℕ, ◌^◌, ◌≤◌, ◌<◌, leb, pos, length, get_or, replicate}
 use Rattle.numbers.specs.Fits.{All}
 use Rattle.values.specs.Ascii.{ascii}
 use Rattle.plan.specs.Limits.{most_points}
@@ -15,7 +15,7 @@ use Rattle.verdict.specs.Verdicts.{ended_of}
 use Rattle.dates.specs.Gregorian.{is_origin}
 use Rattle.dates.specs.declared.Stamp.{Stamp}
 use Rattle.moments.specs.Event.{line, uid_line, start_line, summary_line}
-use Rattle.calendar.specs.Calendars.{moment_of, calendar_text, text_length, most_text, answer, calendar_of}
+use Rattle.calendar.specs.Calendars.{moment_of, calendar_text, text_length, most_text, calendar_of}
 
 -- "none exceeds 75 octets"
 abbrev pub most_octets : ℕ
@@ -57,7 +57,7 @@ LengthOfText = (rs : List Record) (b : Board) (origin : Stamp) → length (calen
 -- a buffer of `most_text` bytes is enough for every sheet
 abbrev pub Enough : Type 0
 Enough = (p : Plan) (b : Board) (origin : Stamp) (out : List ℕ) → HeldPlan p → (ended_of p b).number ≡ 0 → is_origin origin ≡ true
-    → most_text ≤ length out → calendar_of p b origin out ≡ answer 0 0 (text_length (records_of p))
+    → most_text ≤ length out → calendar_of p b origin out ≡ Ok (text_length (records_of p))
 
 -- 32 points with the longest pond codes, whose text is as long as a text can be
 abbrev pub fullest : List Record

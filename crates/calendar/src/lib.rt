@@ -7,8 +7,9 @@
 
 ghost use Rattle.std.specs.Prelude.{◌≡◌, ◌+◌, ◌≤◌, length};
 ghost use Rattle.plan.specs.Limits.{most_points};
+ghost use Rattle.plan.specs.ReplyNumbers.{refusal};
 ghost use Rattle.buffers.specs.Inside.{Laid};
-ghost use Rattle.calendar.specs.Calendars.{moment_of, events_of, events_length, most_text, answer, calendar_of, written_of};
+ghost use Rattle.calendar.specs.Calendars.{moment_of, events_of, events_length, most_text, calendar_of, written_of};
 ghost use Rattle.calendar.specs.Inside.{coded, length_by, text_by, WrittenBy};
 
 use board::{Board, minute_of};
@@ -17,7 +18,7 @@ use codes::{ROOM, ponds_of};
 use dates::{Stamp, is_origin, shown};
 use links::{Links, links_by};
 use moments::{MOMENT_BYTES, event_length, moment_of, put_event};
-use plan::{ACCEPTED, Plan, check};
+use plan::{ACCEPTED, Plan, Refusal, check};
 use verdict::ended_by;
 
 // The reply numbers 51 and 52.
@@ -30,14 +31,6 @@ pub const MOST_TEXT: usize = 4_278;
 
 // How long the lines before the events and the one behind them are.
 const AROUND: usize = 74;
-
-// What writing a calendar answers: number 0 and the text's length, or a reply number with the record that it is about.
-#[derive(Clone, Copy)]
-pub struct Calendar {
-    pub number: u32,
-    pub place: u32,
-    pub length: usize,
-}
 
 // A buffer of so many bytes is enough for every sheet.
 pub fn most_text() -> usize
@@ -60,10 +53,8 @@ fn text_length(ponds: [u32; ROOM], n: u32) -> usize
     ensures { result ≡ length_by ponds n }
 {
     let mut k = AROUND;
-    let mut p: u32 = 0;
-    while p < n {
+    for p in 0..n {
         k += event_length(p, ponds[p as usize]);
-        p += 1;
     }
     k
 }
@@ -81,11 +72,9 @@ fn put_events(
     ensures { Laid out.old at (events_of (coded ponds) board origin n) out.new result }
 {
     let mut next = at;
-    let mut p: u32 = 0;
-    while p < n {
+    for p in 0..n {
         let moment = moment_at(board, origin, p as u8);
         next = put_event(out, next, p, ponds[p as usize], moment);
-        p += 1;
     }
     next
 }
@@ -111,47 +100,45 @@ pub fn write_by(
     board: Board,
     origin: Stamp,
     out: &mut [u8],
-) -> Calendar
+) -> Result<usize, Refusal>
     requires { links.points ≤ most_points }
     ensures { WrittenBy links ponds board origin out.old result out.new }
 {
     let found = ended_by(board, links);
     if found.number != ACCEPTED {
-        return refuse(found.number, found.place);
+        return Err(found);
     }
     if !is_origin(origin) {
-        return refuse(NO_ORIGIN, 0);
+        return Err(refusal(NO_ORIGIN));
     }
     let n = links.points;
     if out.len() < text_length(ponds, n) {
-        return refuse(NO_ROOM, 0);
+        return Err(refusal(NO_ROOM));
     }
-    let length = put_calendar(out, ponds, n, board, origin);
-    Calendar {
-        number: ACCEPTED,
-        place: 0,
-        length: length,
-    }
+    Ok(put_calendar(out, ponds, n, board, origin))
 }
 
-fn refuse(number: u32, place: u32) -> Calendar
-    ensures { result ≡ answer number place 0 }
+// A refusal that is about no record.
+fn refusal(number: u32) -> Refusal
+    ensures { result ≡ refusal number 0 }
 {
-    Calendar {
-        number: number,
-        place: place,
-        length: 0,
-    }
+    Refusal { number, place: 0 }
 }
 
-// Writes a finished board as an iCalendar text into the front of the buffer; a refusal changes no byte of it.
-pub fn write_calendar(plan: Plan, board: Board, origin: Stamp, out: &mut [u8]) -> Calendar
+// Writes a finished board as an iCalendar text into the front of the buffer, and answers how long it is; or a refusal, which changes no
+// byte of the buffer.
+pub fn write_calendar(
+    plan: Plan,
+    board: Board,
+    origin: Stamp,
+    out: &mut [u8],
+) -> Result<usize, Refusal>
     ensures reply { result ≡ calendar_of plan board origin out.old }
     ensures bytes { out.new ≡ written_of plan board origin out.old }
 {
     let found = check(plan);
     if found.number != ACCEPTED {
-        return refuse(found.number, found.place);
+        return Err(found);
     }
     let links = links_by(plan, true);
     write_by(links, ponds_of(plan), board, origin, out)

@@ -7,16 +7,15 @@ use mathlib.Core.List.{List, [], ◌∷◌}
 use Prim.Native.Nat.{ℕ, zero, suc, ◌+◌, ◌-◌, ◌^◌, ◌≤◌, ◌<◌}
 use native.Mathlib.Omega.{arith}
 use native.Mathlib.Nat.{eq-or-lt_of_le}
-use lib.Dec.{eqb, ltb, leb}
+use lib.Dec.{eqb, ltb}
 use borrow.Author.Tests.{eqb-true, eqb-false, eq-eqb, ne_eqb, ltb-true, ltb-false, lt-ltb, leb-true, le-leb, not-true, not-false}
 use Rattle.points.specs.Sets.{member, members_of, without_of, count_of, from, every}
 use Rattle.points.proofs.Laws.{member_empty, member_without, without_count, count_le}
 use Rattle.plan.specs.Limits.{most_points}
-use Rattle.history.specs.History.{minute_in, largest}
+use Rattle.history.specs.History.{minute_in}
 use Rattle.history.proofs.Tests.{clash, both, and_both, either, unless, as_unless}
 use Rattle.history.proofs.Lists.{has, every_has, every_point, point_every, has_members, members_has, every_member, member_every, largest_le, largest_ge, largest_at}
 -- the cases first: a wrong rule is then an error about them
-use Rattle.calls.proofs.ACase.{cases}
 use Rattle.calls.specs.Calls.{call_in, unnumbered, no_gap, never_fall, same_minute, one_foreman, any_two, numbered, last_call}
 
 -- ---- tests of some points

@@ -5,23 +5,22 @@ use mathlib.Core.Path.{◌≡◌, refl, ap, sym, ◌∙◌}
 use mathlib.Core.Logic.{◌⊎◌, inl, inr}
 use mathlib.Core.Bool.{Bool, true, false, not, ◌&&◌, ◌||◌, or-true, and-false}
 use mathlib.Core.List.{List}
-use Prim.Native.Nat.{ℕ, zero, suc, ◌+◌, ◌-◌, ◌^◌, ◌≤◌, ◌<◌, min}
+use Prim.Native.Nat.{ℕ, zero, suc, ◌-◌, ◌^◌, ◌≤◌, ◌<◌}
 use native.Mathlib.Omega.{arith}
 use native.Mathlib.Nat.{eq-or-lt_of_le, min-eq_left}
 use lib.Count.{ones}
 use lib.Dec.{lit<, eqb, ltb, leb}
 use lib.ListN.{length, get_or, set, length-set}
 use lib.Seq.{get_or-set_same, get_or-set_other}
-use borrow.Author.Tests.{eqb-true, eqb-false, eq-eqb, ltb-true, ltb-false, lt-ltb, le-ltb, leb-true, le-leb, not-true, not-false}
+use borrow.Author.Tests.{eqb-true, eqb-false, eq-eqb, ltb-true, ltb-false, lt-ltb, le-ltb, leb-true, le-leb, not-true}
 use Rattle.points.specs.Sets.{member, with_of, without_of, count_of, below_of, from, every}
-use Rattle.points.proofs.Laws.{Turn, member_empty, member_past, member_small, member_below, below_fits, same_members, member_with, with_fits, with_past, with_count, member_without, count_le}
-use Rattle.std.specs.Prelude.{if◌then◌else◌}
+use Rattle.points.proofs.Laws.{Turn, member_empty, member_past, member_below, below_fits, same_members, member_with, with_fits, with_past, with_count, member_without, count_le}
 use Rattle.plan.specs.Limits.{most_points}
 use Rattle.history.specs.History.{minute_in}
 use Rattle.history.proofs.Tests.{clash, both, and_both, either, unless, as_unless}
 use Rattle.history.proofs.Lists.{every_point, every_has, has_every, has_from, from_has}
 use Rattle.calls.specs.Calls.{call_in, unnumbered, numbered, last_call}
-use Rattle.calls.specs.Inside.{slot_of, slot_by, agrees_with, rises, rising, in_order}
+use Rattle.calls.specs.Inside.{slot_of, slot_by, agrees_with, rises, in_order}
 use Rattle.calls.proofs.Laws.{Numbers, numbers_means, numbers_from, last_room}
 
 -- ---- sets

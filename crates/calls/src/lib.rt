@@ -11,7 +11,7 @@ ghost use Rattle.calls.specs.Calls.{unnumbered, numbered};
 ghost use Rattle.calls.specs.Inside.{slot_of, slot_by, agrees_with, rising, in_order};
 
 use history::{ROOM, first_points};
-use points::{MOST, count, first, has, with, without};
+use points::{MOST, count, has, members, with};
 
 // There are no more events than points.
 const MOST_CALLS: u32 = MOST as u32;
@@ -20,13 +20,11 @@ const MOST_CALLS: u32 = MOST as u32;
 fn all_unnumbered(done: u32, calls: [u32; ROOM]) -> bool
     ensures { result ≡ every (unnumbered done calls) (from 0 most_points) }
 {
-    let mut p: u8 = 0;
-    while p < MOST {
+    for p in 0..MOST {
         let at = p as usize;
         if !(has(done, p) | (calls[at] == 0)) {
             return false;
         }
-        p += 1;
     }
     true
 }
@@ -61,14 +59,12 @@ fn is_rising(noted: [u32; ROOM], k: u32) -> bool
     requires { k ≤ most_points }
     ensures { result ≡ rising noted k }
 {
-    let n = k as usize;
-    let mut i: usize = 0;
-    while i + 1 < n {
+    let last = (k as usize).saturating_sub(1);
+    for i in 0..last {
         let next = i + 1;
         if noted[next] < noted[i] {
             return false;
         }
-        i = next;
     }
     true
 }
@@ -89,9 +85,7 @@ fn done_numbered(done: u32, minutes: [u32; ROOM], calls: [u32; ROOM], watched: u
     let mut seen: u32 = 0;
     let mut foremans: u32 = 0;
     let mut noted: [u32; ROOM] = [0; ROOM];
-    let mut rest = done;
-    while rest != 0 {
-        let p = first(rest);
+    for p in members(done) {
         let at = p as usize;
         let n = calls[at];
         let m = minutes[at];
@@ -104,7 +98,6 @@ fn done_numbered(done: u32, minutes: [u32; ROOM], calls: [u32; ROOM], watched: u
         seen = with(seen, s);
         foremans = with(foremans, by);
         noted[place] = m;
-        rest = without(rest, p);
     }
     in_order(seen, noted)
 }

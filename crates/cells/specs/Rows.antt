@@ -1,11 +1,9 @@
 -- A line of a sheet by its commas and what is kept of its columns: 41 to 43, or its record. No reader of the rules needs this page: `line_by_lem`
 -- of office/proofs/Rows says that it is the line of the rules. Assumes nothing.
-use Rattle.std.specs.Prelude.{Bool, false, ◌&&◌, not, List, ℕ, ◌%◌, eqb, get_or, if◌then◌else◌}
+use Rattle.std.specs.Prelude.{Bool, false, ◌&&◌, not, List, Result, Ok, Err, ℕ, ◌%◌, eqb, get_or, if◌then◌else◌}
 use Rattle.records.specs.declared.Record.{Record}
 use Rattle.values.specs.Inside.{kind_in, point_in, number_in, value_in, code_in, pond_in}
 use Rattle.values.specs.declared.Seen.{Seen}
-use Rattle.cells.specs.declared.Line.{Line}
-use Rattle.cells.specs.declared.Line.TheVariants.{Good, Bad}
 
 -- zeros, as a place past the last of a list reads
 abbrev pub zeros : Seen
@@ -31,9 +29,9 @@ record_in cells =
     }
 
 -- a line by its commas and what is kept of its columns
-unfoldable pub line_by : ℕ → List Seen → Line
+unfoldable pub line_by : ℕ → List Seen → Result Record ℕ
 line_by commas cells =
-    if not (eqb commas 5) then Bad 41
-    else (if not (readable_in cells) then Bad 42
-    else (if not (code_in (cell 5 cells)) then Bad 43
-    else Good (record_in cells)))
+    if not (eqb commas 5) then Err 41
+    else (if not (readable_in cells) then Err 42
+    else (if not (code_in (cell 5 cells)) then Err 43
+    else Ok (record_in cells)))

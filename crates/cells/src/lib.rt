@@ -21,58 +21,44 @@ pub const UNREADABLE: u32 = 42;
 
 pub const NO_CODE: u32 = 43;
 
-// A line's record, or the number that it is refused with.
-#[derive(Clone, Copy)]
-pub enum Line {
-    Good(Record),
-    Bad(u32),
-}
-
 // A word, two points and two numbers in the first five columns.
+#[tactic(auto, unfolding(crate::specs::Rows::readable_in))]
 fn is_readable(cells: [Seen; COLUMNS]) -> bool
     ensures { result ≡ readable_in cells }
 {
-    let word = cells[0];
-    let a = cells[1];
-    let b = cells[2];
-    let first = cells[3];
-    let second = cells[4];
-    (word.kind() != 0) & ((a.is_point() & b.is_point()) & (first.is_number() & second.is_number()))
+    (cells[0].kind() != 0)
+        & ((cells[1].is_point() & cells[2].is_point())
+            & (cells[3].is_number() & cells[4].is_number()))
 }
 
 // The record that six columns make.
+#[tactic(auto, unfolding(crate::specs::Rows::record_in))]
 fn record_by(cells: [Seen; COLUMNS]) -> Record
     ensures { result ≡ record_in cells }
 {
-    let word = cells[0];
-    let a = cells[1];
-    let b = cells[2];
-    let first = cells[3];
-    let second = cells[4];
-    let pond = cells[5];
     Record {
-        kind: word.kind(),
-        a: a.point(),
-        b: b.point(),
-        first: first.number(),
-        second: second.number(),
-        code: pond.code(),
+        kind: cells[0].kind(),
+        a: cells[1].point(),
+        b: cells[2].point(),
+        first: cells[3].number(),
+        second: cells[4].number(),
+        code: cells[5].code(),
     }
 }
 
-// A line of so many commas.
-pub fn line_by(commas: usize, cells: [Seen; COLUMNS]) -> Line
+// A line of so many commas: its record, or the number that it is refused with.
+#[tactic(auto, unfolding(crate::specs::Rows::line_by))]
+pub fn line_by(commas: usize, cells: [Seen; COLUMNS]) -> Result<Record, u32>
     ensures { result ≡ line_by commas cells }
 {
     if commas != COMMAS {
-        return Line::Bad(COLUMN_COUNT);
+        return Err(COLUMN_COUNT);
     }
     if !is_readable(cells) {
-        return Line::Bad(UNREADABLE);
+        return Err(UNREADABLE);
     }
-    let pond = cells[5];
-    if !pond.is_code() {
-        return Line::Bad(NO_CODE);
+    if !cells[5].is_code() {
+        return Err(NO_CODE);
     }
-    Line::Good(record_by(cells))
+    Ok(record_by(cells))
 }

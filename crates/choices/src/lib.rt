@@ -9,7 +9,7 @@ ghost use Rattle.choices.specs.Answered.{refused_by, many_by};
 ghost use Rattle.choices.specs.Choices.{ChooseAsks, ChosenAs};
 
 use plan::{ACCEPTED, Refusal};
-use rows::{SHEET, index, row_at};
+use rows::{SHEET, row_at};
 use tables::SIDE;
 use vee::Answer;
 
@@ -19,10 +19,7 @@ pub const DOES_NOT_PASS: u32 = 60;
 fn refusal(number: u32, place: u32) -> Refusal
     ensures { result ≡ record { number = number; place = place } }
 {
-    Refusal {
-        number: number,
-        place: place,
-    }
+    Refusal { number, place }
 }
 
 // What an answer of the test refuses: its own refusal, or 60 where the plan does not pass.
@@ -31,9 +28,8 @@ pub fn refused_by(answer: Answer) -> Refusal
 {
     match answer {
         Answer::Refused(number, place) => refusal(number, place),
-        Answer::Yes(k) => refusal(ACCEPTED, 0),
-        Answer::Cycle(i) => refusal(DOES_NOT_PASS, 0),
-        Answer::Pair(i, x, y) => refusal(DOES_NOT_PASS, 0),
+        Answer::Yes(_) => refusal(ACCEPTED, 0),
+        Answer::Cycle(_) | Answer::Pair(_, _, _) => refusal(DOES_NOT_PASS, 0),
     }
 }
 
@@ -42,10 +38,8 @@ pub fn many_by(answer: Answer) -> u32
     ensures { result ≡ many_by answer }
 {
     match answer {
-        Answer::Refused(number, place) => 0,
         Answer::Yes(k) => k,
-        Answer::Cycle(i) => 0,
-        Answer::Pair(i, x, y) => 0,
+        _ => 0,
     }
 }
 
@@ -54,8 +48,7 @@ fn lasting(least: u64, most: u64, digit: u64) -> u64
     requires { (least + digit ≤ most) × (most ≤ farthest) }
     ensures { result ≡ least + digit }
 {
-    let p = least + digit;
-    if p < most { p } else { most }
+    most.min(least + digit)
 }
 
 // The durations of projection `number` of the `many` that the links of the `links` rows before row `past` have: the number's
@@ -71,15 +64,13 @@ pub fn chosen(
     ensures { ChosenAs sheet.now past links number result }
 {
     let mut w = [0u64; SIDE];
-    let mut rest = many as u64;
-    let mut left = number as u64;
-    let mut ahead = links;
-    while 0 < ahead {
-        let row = row_at(sheet, past - ahead);
-        rest = rest / (row.second + 1 - row.first);
-        w[index(row.over)] = lasting(row.first, row.second, left / rest);
-        left = left % rest;
-        ahead -= 1;
+    let mut rest = u64::from(many);
+    let mut left = u64::from(number);
+    for k in (0..links).rev() {
+        let row = row_at(sheet, past - (k + 1));
+        rest /= row.second + 1 - row.first;
+        w[row.over as usize] = lasting(row.first, row.second, left / rest);
+        left %= rest;
     }
     w
 }

@@ -37,11 +37,6 @@ pub fn carry(chunk: &mut [u8], past: usize, at: usize) -> usize
     ensures many { result ≡ at - past }
     ensures bytes { take result chunk.new ≡ take result (drop past chunk.old) }
 {
-    let left = at - past;
-    let mut i: usize = 0;
-    while i < left {
-        chunk[i] = chunk[past + i];
-        i += 1;
-    }
-    left
+    chunk.copy_within(past..at, 0);
+    at - past
 }

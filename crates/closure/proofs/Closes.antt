@@ -7,12 +7,12 @@ use native.Mathlib.Omega.{arith}
 use native.Mathlib.Decide.{dec_lt}
 use lib.ListN.{length, length-replicate, length-take, take}
 use borrow.Author.Tests.{ne_eqb, not-true, not-false}
+use Rattle.std.specs.Prelude.{Ok, Err}
 use Rattle.plan.specs.Limits.{most_points, most_records}
 use Rattle.plan.specs.APlan.{points, records_of, plan_of}
-use Rattle.plan.specs.ReplyNumbers.{refusal, refused, check_of}
+use Rattle.plan.specs.ReplyNumbers.{Reading, refusal, refused, check_of}
 use Rattle.records.specs.declared.Record.{Record}
 use Rattle.plan.specs.declared.Plan.{Plan}
-use Rattle.plan.specs.declared.Reading.{Reading}
 use Rattle.plan.specs.declared.Refusal.{Refusal}
 use Rattle.network.specs.Passing.{Consistent}
 use Rattle.network.proofs.Laws.{not_both}
@@ -107,11 +107,11 @@ module _ (rs : List Record) (v : Valid [] rs) (s : List ℕ) (out : LaidOut rs s
 
 -- ---- the answers
 
-pub close_refused_lem : (p : Plan) {x : Refusal} {r : Reading} → x ≡ check_of p → (x.number ≡ 0 → ⊥) → r ≡ refused (refusal x.number x.place) → r ≡ close_of p
+pub close_refused_lem : (p : Plan) {x : Refusal} → x ≡ check_of p → (x.number ≡ 0 → ⊥) → Err x ≡ close_of p
 unfolding close_of
-close_refused_lem p {x} e h k =
+close_refused_lem p {x} e h =
     let n : (check_of p).number ≡ 0 → ⊥ = λ z. h (ap (λ (y : Refusal). y.number) e ∙ z) in
-    k ∙ ap refused e ∙ rw (ne_eqb (check_of p).number 0 n) refl
+    ap refused e ∙ rw (ne_eqb (check_of p).number 0 n) refl
 
 module _ (p : Plan) {x : Refusal} (ex : x ≡ check_of p) (ok : x.number ≡ 0) where
   passed : (check_of p).number ≡ 0
@@ -174,7 +174,7 @@ module _ (p : Plan) {x : Refusal} (ex : x ≡ check_of p) (ok : x.number ≡ 0) 
         made_is = rw (hn, same_records (points (records_of p)) (at t) (entry (distances_of (records_of p))) tables) refl
 
         pub close_made : {g : Bool} {q : Plan} → g ≡ some_too_far n (at t) → g ≡ false → q ≡ plan_of (take n (records_of p) ++ records_by n (at t))
-            → ◌≡◌ {A = Reading} (record { number = 0; place = 0; plan = q }) (close_of p)
+            → Ok q ≡ close_of p
         unfolding close_of
         close_made hg eg k =
             let z : some_too_far (points (records_of p)) (entry (distances_of (records_of p))) ≡ false = sym far_is ∙ sym hg ∙ eg in

@@ -13,6 +13,7 @@ use lib.ListN.{length, get_or, set, take, replicate, length-append, length-take}
 use lib.Seq.{set_at, append_snoc, take-suc, take_all, get_or-take, length-take-le}
 use borrow.Author.Tests.{ltb-true, lt-ltb, le-ltb}
 use Rattle.std.specs.Prelude.{if◌then◌else◌}
+use Rattle.std.specs.Bool.{MatchBool}
 use Rattle.plan.specs.Limits.{most_records, farthest}
 use Rattle.plan.specs.APlan.{one, some, blank, records_of, plan_of}
 use Rattle.plan.specs.PlanFile.{signed_of}
@@ -87,20 +88,10 @@ module _ (n : ℕ) (so : ℕ → Bool) where
       go false k = refl
       go true k = let l : first n so < n = ltb-true (first n so) n k in clash (sym (first_so n so l) ∙ h (first n so) l)
 
-module _ (n : ℕ) (so : ℕ → Bool) where
-  -- none of the numbers below y is so
-  pub record NoneBelow (y : ℕ) : Type 0 where
-    pub below : y ≤ n
-    pub none_so : (j : ℕ) → j < y → so j ≡ false
-
-  pub none_yet : NoneBelow 0
-  none_yet = record { below = omega arith; none_so = λ j h. absurd (omega arith) }
-
-  pub none_more : {y : ℕ} → NoneBelow y → y < n → so y ≡ false → NoneBelow (y + 1)
-  none_more {y} s h e = record { below = omega arith; none_so = λ j l. elim (dec_lt j y) [ yes m ↦ s.none_so j m | no m ↦ (let z : j ≡ y = omega arith in rw z e) ] }
-
-  pub none_at_all : {y : ℕ} → NoneBelow y → n ≤ y → false ≡ among n so
-  none_at_all {y} s h = not_among n so (λ j l. s.none_so j (omega (arith, s.below)))
+-- whether one is, as a search answers it
+pub among_by : (n : ℕ) (so : ℕ → Bool) (r : Bool) → MatchBool r ((j : ℕ) × (j < n) × (so j ≡ true)) ((j : ℕ) → j < n → so j ≡ false) → r ≡ among n so
+among_by n so true h = one_among n so h.0 h.1 h.2
+among_by n so false h = not_among n so h
 
 -- ---- steps
 

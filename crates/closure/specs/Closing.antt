@@ -5,11 +5,10 @@ use Rattle.std.specs.Prelude.{Bool, not, ◌&&◌, ◌||◌, List, [], ◌∷◌
 use Rattle.std.proofs.Math.IntN.{sub_ℕ}
 use Rattle.plan.specs.Limits.{farthest}
 use Rattle.plan.specs.APlan.{link, wait, is, some, points, records_of}
-use Rattle.plan.specs.ReplyNumbers.{refusal, refused, taken, check_of}
+use Rattle.plan.specs.ReplyNumbers.{Reading, refusal, refused, taken, check_of}
 use Rattle.plan.specs.Haul.{an_ordinary}
 use Rattle.records.specs.declared.Record.{Record}
 use Rattle.plan.specs.declared.Plan.{Plan}
-use Rattle.plan.specs.declared.Reading.{Reading}
 use Rattle.tables.specs.Tables.{Table, bias, none}
 use Rattle.vee.specs.PlanTest.{unset}
 use Rattle.vee.specs.TestOf.{Rows, arcs, entry, distances, among, has_cycle}

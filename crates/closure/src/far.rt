@@ -26,12 +26,7 @@ fn far_from(t: &[u32; ROOM], n: usize, x: usize) -> bool
     ensures { result ≡ among n (λ Y. too_far (at t.now x Y)) }
 {
     let row = x * SIDE;
-    for y in 0..n {
-        if is_far(t[row + y]) {
-            return true;
-        }
-    }
-    false
+    (0..n).any(|y| is_far(t[row + y]))
 }
 
 // Whether one between any two of `n` points is.
@@ -39,10 +34,5 @@ pub(crate) fn some_far(t: &[u32; ROOM], n: usize) -> bool
     requires { n ≤ side }
     ensures { result ≡ some_too_far n (at t.now) }
 {
-    for x in 0..n {
-        if far_from(t, n, x) {
-            return true;
-        }
-    }
-    false
+    (0..n).any(|x| far_from(t, n, x))
 }

@@ -6,13 +6,11 @@
 ghost use Rattle.std.specs.Prelude.{◌≡◌, ◌≤◌};
 ghost use Rattle.plan.specs.Limits.{most_records};
 ghost use Rattle.plan.specs.APlan.{records_of};
-ghost use Rattle.plan.specs.ReplyNumbers.{refusal, refused};
 ghost use Rattle.closure.specs.Closing.{has_steps, close_of};
 
 use far::some_far;
 use made::made_plan;
-use plan::{ACCEPTED, LINK, Plan, Reading, WAIT, check, points_of};
-use records::no_records;
+use plan::{ACCEPTED, LINK, Plan, Refusal, WAIT, check, points_of, refuse};
 use rows::{SHEET, fill, lay_out};
 use tables::{NONE, Part, ROOM, SIDE};
 
@@ -25,22 +23,6 @@ pub const HAS_STEPS: u32 = 61;
 pub const BELOW_ZERO: u32 = 62;
 
 pub const TOO_FAR: u32 = 63;
-
-// A refusal hands back a plan without records.
-fn refuse(number: u32, place: u32) -> Reading
-    ensures { result ≡ refused (refusal number place) }
-{
-    let records = no_records();
-    let plan = Plan {
-        count: 0,
-        records: records,
-    };
-    Reading {
-        number: number,
-        place: place,
-        plan: plan,
-    }
-}
 
 // Whether a link or wait is present.
 fn has_steps(plan: Plan) -> bool
@@ -56,13 +38,13 @@ fn has_steps(plan: Plan) -> bool
     found
 }
 
-// Makes the plan: its own refusal, then 61, 62 and 63, and then a plan without records; else number 0 and the plan that is made.
-pub fn close(plan: Plan) -> Reading
+// Makes the plan: its own refusal, then 61, 62 and 63; else the plan that is made.
+pub fn close(plan: Plan) -> Result<Plan, Refusal>
     ensures { result ≡ close_of plan }
 {
     let found = check(plan);
     if found.number != ACCEPTED {
-        return refuse(found.number, found.place);
+        return Err(found);
     }
     if has_steps(plan) {
         return refuse(HAS_STEPS, 0);
@@ -86,9 +68,5 @@ pub fn close(plan: Plan) -> Reading
         return refuse(TOO_FAR, 0);
     }
     let made = made_plan(plan, &t, n);
-    Reading {
-        number: ACCEPTED,
-        place: 0,
-        plan: made,
-    }
+    Ok(made)
 }

@@ -82,7 +82,7 @@ fn with_row(plan: Plan, t: &[u32; ROOM], n: usize, x: usize) -> Plan
     }
     Plan {
         count: count as u32,
-        records: records,
+        records,
     }
 }
 
@@ -110,7 +110,7 @@ fn first_records(plan: Plan, n: usize) -> Plan
     }
     Plan {
         count: n as u32,
-        records: records,
+        records,
     }
 }
 

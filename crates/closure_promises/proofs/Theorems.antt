@@ -12,14 +12,13 @@ use borrow.Author.Tests.{ltb-true, lt-ltb, ne_eqb}
 use Rattle.std.specs.Prelude.{if◌then◌else◌}
 use Rattle.plan.specs.Limits.{most_points, most_ordinary, most_records, farthest}
 use Rattle.plan.specs.APlan.{points, blank, records_of, plan_of}
-use Rattle.plan.specs.ReplyNumbers.{refusal, accepted, refused, taken, check_of, check_with, first_bad}
+use Rattle.plan.specs.ReplyNumbers.{refusal, accepted, refused, taken, check_of, check_with, first_bad, Reading, number_in, plan_in}
 use Rattle.plan.specs.Held.{HeldPlan, plain}
 use Rattle.plan.proofs.Accepted as plan
 use Rattle.plan.proofs.Limited.{verdict, Good, good, same}
 use Rattle.plan.proofs.RoundTrip.{records_of_plan, checked_count}
 use Rattle.records.specs.declared.Record.{Record}
 use Rattle.plan.specs.declared.Plan.{Plan}
-use Rattle.plan.specs.declared.Reading.{Reading}
 use Rattle.plan.specs.declared.Refusal.{Refusal}
 use Rattle.network.specs.Projection.{Edge}
 use Rattle.network.specs.Walks.{Walk, nil, step}
@@ -367,8 +366,8 @@ module _ (p : Plan) (ok : (check_of p).number ≡ 0) (none_there : has_steps (re
 -- ---- the answers
 
 -- two refusals with their numbers
-number_of : {x y : Reading} → x ≡ y → x.number ≡ y.number
-number_of e = ap (λ (x : Reading). x.number) e
+number_of : {x y : Reading} → x ≡ y → number_in x ≡ number_in y
+number_of e = ap number_in e
 
 module _ (p : Plan) where
   abbrev cyc : Bool
@@ -435,7 +434,7 @@ module _ (p : Plan) where
     calm : cyc ≡ false
     near : out ≡ false
 
-  makes : (close_of p).number ≡ 0 → Makes
+  makes : number_in (close_of p) ≡ 0 → Makes
   makes e = go (check_of p).number refl (has_steps (records_of p)) refl cyc refl out refl
     where
       go : (k : ℕ) → (check_of p).number ≡ k → (s : Bool) → has_steps (records_of p) ≡ s → (b : Bool) → cyc ≡ b → (d : Bool) → out ≡ d → Makes
@@ -445,10 +444,10 @@ module _ (p : Plan) where
       go zero h false i false j true l = absurd (let z : ◌≡◌ {A = ℕ} 63 0 = sym (number_of (is_63 h i j l)) ∙ e in omega arith)
       go zero h false i false j false l = record { ok = h; free = i; calm = j; near = l }
 
-  made_stands : HeldPlan p → (close_of p).number ≡ 0 → Stands p (close_of p).plan
+  made_stands : HeldPlan p → number_in (close_of p) ≡ 0 → Stands p (plan_in (close_of p))
   made_stands held e =
       let m = makes e in
-      subst (Stands p) (sym (ap (λ (x : Reading). x.plan) (is_0 m.ok m.free m.calm m.near))) (stands p m.ok m.free m.calm held m.near)
+      subst (Stands p) (sym (ap plan_in (is_0 m.ok m.free m.calm m.near))) (stands p m.ok m.free m.calm held m.near)
 
 -- What is promised of the answer to any plan that a program can hold.
 pub answers : (p : Plan) → HeldPlan p → Answers p

@@ -4,7 +4,7 @@
 use Rattle.std.specs.Prelude.{◌≡◌, ◌≢◌, ◌↔◌, ◌⊎◌, true, false, ℕ, ◌+◌, ◌<◌, ◌≤◌, get_or}
 use Rattle.plan.specs.Limits.{farthest}
 use Rattle.plan.specs.APlan.{ordinary, points, blank, records_of}
-use Rattle.plan.specs.ReplyNumbers.{refusal, accepted, refused, check_of}
+use Rattle.plan.specs.ReplyNumbers.{refusal, accepted, refused, check_of, number_in, plan_in}
 use Rattle.records.specs.declared.Record.{Record}
 use Rattle.plan.specs.declared.Plan.{Plan}
 use Rattle.network.specs.Walks.{Walk}
@@ -81,4 +81,4 @@ pub record Answers (p : Plan) : Type 0 where
   pub below : (check_of p).number ≡ 0 → has_steps (records_of p) ≡ false → (close_of p ≡ refused (refusal 62 0)) ↔ Cycle (edges p)
   pub far : (check_of p).number ≡ 0 → has_steps (records_of p) ≡ false → (Cycle (edges p) → ⊥)
       → (close_of p ≡ refused (refusal 63 0)) ↔ Far p
-  pub made : (close_of p).number ≡ 0 → Stands p (close_of p).plan
+  pub made : number_in (close_of p) ≡ 0 → Stands p (plan_in (close_of p))

@@ -17,11 +17,8 @@ pub fn ponds_of(plan: Plan) -> [u32; ROOM]
     ensures { ForEach (pond_at plan) 0 most_points result }
 {
     let mut ponds = [0u32; ROOM];
-    let mut i: usize = 0;
-    while i < ROOM {
-        let r = plan.records[i];
-        ponds[i] = r.code;
-        i += 1;
+    for i in 0..ROOM {
+        ponds[i] = plan.records[i].code;
     }
     ponds
 }

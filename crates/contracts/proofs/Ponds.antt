@@ -5,24 +5,31 @@ use mathlib.Core.List.{List}
 use Prim.Native.Nat.{ℕ}
 use native.Mathlib.Decide.{ℕ_discrete}
 use Rattle.plan.specs.APlan.{records_of}
-use Rattle.plan.specs.ReplyNumbers.{read_of}
+use Rattle.plan.specs.ReplyNumbers.{read_of, number_in, plan_in as plan_read}
 use Rattle.plan.specs.declared.Refusal.{Refusal}
 use Rattle.lighter.specs.declared.Lighter.{Lighter}
 use Rattle.lighter.proofs.Theorems.{one_lighter}
 use Rattle.halves.specs.Answers.{answer_of}
 use Rattle.hulls.specs.Rooms.{links_in, links_room, reply_room}
 use Rattle.made_files.specs.Made.{filed_answer, file_left, plan_in, dropped_left, LighterWritten}
-use Rattle.made_files.specs.Made.LighterWritten.{unread, made}
+use Rattle.made_files.specs.Made.LighterWritten.{unread, refused, made}
 use Rattle.day_rooms.specs.Days.{FilledFrom, BeginsFrom, TakesFrom, RepliesFrom}
 use Rattle.contracts.proofs.Begins.{SameRooms, one_links, filled_same}
 use Rattle.contracts.proofs.Rooms.{one_reply, one_taken, one_room}
 
 pub one_lightened : (s out room : List ℕ) {r r' : ℕ} {o o' n n' : List ℕ} → LighterWritten s out room r o n → LighterWritten s out room r' o' n' → (r ≡ r') × (o ≡ o') × (n ≡ n')
 one_lightened s out room (unread h) (unread k) = (refl, refl, refl)
+one_lightened s out room (unread h) (refused e l) = absurd (h e)
 one_lightened s out room (unread h) (made e l) = absurd (h e)
+one_lightened s out room (refused e l) (unread h) = absurd (h e)
+one_lightened s out room (refused {r = x} e l) (refused {r = y} e' l') =
+    let q : x ≡ y = cc (one_lighter l l') in
+    (ap (λ (w : Refusal). answer_of w.number w.place) q, refl, refl)
+one_lightened s out room (refused e l) (made e' l') = absurd (cc (one_lighter l l'))
 one_lightened s out room (made e l) (unread h) = absurd (h e)
-one_lightened s out room (made e l) (made e' l') =
-    let q = one_lighter l l' in
+one_lightened s out room (made e l) (refused e' l') = absurd (cc (one_lighter l l'))
+one_lightened s out room (made {x = x} e l) (made {x = y} e' l') =
+    let q : x ≡ y = cc (one_lighter l l') in
     (λ i. filed_answer (plan_in (q i)) out, λ i. file_left (plan_in (q i)) out, λ i. dropped_left (q i) out room)
 
 pub one_take : (links rows into out ends kept s : List ℕ) (r r' : ℕ) (kept' kept'' : List ℕ) → TakesFrom links rows into out ends kept s r kept' → TakesFrom links rows into out ends kept s r' kept''
@@ -38,14 +45,14 @@ one_said links rows out kept room room' x y =
 module _ (s links₀ rows₀ into₀ out₀ ends₀ kept₀ links rows into out ends kept links' rows' into' out' ends' kept' : List ℕ) (r r' : ℕ)
     (x : BeginsFrom s links₀ rows₀ into₀ out₀ ends₀ kept₀ r links rows into out ends kept) (y : BeginsFrom s links₀ rows₀ into₀ out₀ ends₀ kept₀ r' links' rows' into' out' ends' kept') where
   pub begun_same : (links ≡ links') × SameRooms rows into out ends kept rows' into' out' ends' kept'
-  begun_same = go (ℕ_discrete (read_of s).number 0)
+  begun_same = go (ℕ_discrete (number_in (read_of s)) 0)
     where
-      go : Dec ((read_of s).number ≡ 0) → (links ≡ links') × SameRooms rows into out ends kept rows' into' out' ends' kept'
+      go : Dec (number_in (read_of s) ≡ 0) → (links ≡ links') × SameRooms rows into out ends kept rows' into' out' ends' kept'
       go (yes e) =
           let a = x.taken e in
           let b = y.taken e in (
-            a.held ∙ ap links_room (one_links (records_of (read_of s).plan) a.of b.of a.are b.are) ∙ sym b.held,
-            filled_same (records_of (read_of s).plan) rows into out ends kept rows' into' out' ends' kept' a.rooms b.rooms,
+            a.held ∙ ap links_room (one_links (records_of (plan_read (read_of s))) a.of b.of a.are b.are) ∙ sym b.held,
+            filled_same (records_of (plan_read (read_of s))) rows into out ends kept rows' into' out' ends' kept' a.rooms b.rooms,
           )
       go (no n) =
           let a = x.refused n in

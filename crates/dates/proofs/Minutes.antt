@@ -53,13 +53,6 @@ origin_of s e =
       days = omega (arith, rises (days_in s.year) (s.month + 1) 13 (omega arith), whole_year s.year, year_long s.year);
     }
 
--- What the code's tests say of an origin, n being the days of its month.
-pub by_its_tests : (s : Stamp) (n : ℕ) → n ≡ days_in s.year s.month
-    → ((leb first_year s.year && leb s.year last_year) && ((leb 1 s.day && leb s.day n) && (ltb s.hour 24 && ltb s.minute 60)))
-    ≡ is_origin s
-unfolding is_origin is_date
-by_its_tests s n e = rw e
-
 -- The date on which a count of days falls that begins with the year of a date is so many days after that date.
 on_date : (o : Date) (n y l m d : ℕ) → is_date o ≡ true
     → Falls days_of (before days_of o.year + (before (days_in o.year) o.month + (o.day - 1) + n)) y l → Falls (days_in y) l m d

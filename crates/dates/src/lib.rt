@@ -33,6 +33,7 @@ struct Place {
     left: u32,
 }
 
+#[tactic(auto, unfolding(crate::specs::Gregorian::leap))]
 fn is_leap(year: u32) -> bool
     ensures { result ≡ leap year }
 {
@@ -40,22 +41,19 @@ fn is_leap(year: u32) -> bool
 }
 
 // The days of a month; none where it is no month.
+#[tactic(auto, unfolding(crate::specs::Gregorian::days_in))]
 fn days_in(year: u32, month: u32) -> u32
     ensures { result ≡ days_in year month }
 {
-    if (1 <= month) & (month <= 12) {
-        if month == 2 {
-            if is_leap(year) { 29 } else { 28 }
-        } else if (month == 4) | ((month == 6) | ((month == 9) | (month == 11))) {
-            30
-        } else {
-            31
-        }
-    } else {
-        0
+    match month {
+        2 => if is_leap(year) { 29 } else { 28 },
+        4 | 6 | 9 | 11 => 30,
+        1..=12 => 31,
+        _ => 0,
     }
 }
 
+#[tactic(auto, unfolding(crate::specs::Counting::days_of))]
 fn days_of(year: u32) -> u32
     ensures { result ≡ days_of year }
 {
@@ -63,6 +61,7 @@ fn days_of(year: u32) -> u32
 }
 
 // May it be given for minute 0?
+#[tactic(auto, unfolding(crate::specs::Gregorian::is_origin, crate::specs::Gregorian::is_date))]
 pub fn is_origin(s: Stamp) -> bool
     ensures { result ≡ is_origin s }
 {
@@ -76,10 +75,8 @@ fn days_before(year: u32, month: u32) -> u32
     ensures { result ≡ before (days_in year) month }
 {
     let mut n = 0;
-    let mut k = 0;
-    while k < month {
+    for k in 0..month {
         n += days_in(year, k);
-        k += 1;
     }
     n
 }
@@ -92,15 +89,13 @@ fn year_of(from: u32, days: u32) -> Place
     let mut year = from;
     let mut left = days;
     let mut year_days = days_of(year);
+    // Days are taken away: no index is counted.
     while year_days <= left {
         left -= year_days;
         year += 1;
         year_days = days_of(year);
     }
-    Place {
-        part: year,
-        left: left,
-    }
+    Place { part: year, left }
 }
 
 // The month in which the day falls that is so many days after the first of January of its year.
@@ -111,15 +106,13 @@ fn month_of(year: u32, days: u32) -> Place
     let mut month = 1;
     let mut left = days;
     let mut month_days = days_in(year, month);
+    // Days are taken away: no index is counted.
     while month_days <= left {
         left -= month_days;
         month += 1;
         month_days = days_in(year, month);
     }
-    Place {
-        part: month,
-        left: left,
-    }
+    Place { part: month, left }
 }
 
 // The date, hour and minute that minute m shows where minute 0 is the origin. An origin that is none is given back as it is.

@@ -8,7 +8,7 @@ use native.Mathlib.Omega.{arith}
 use Rattle.std.specs.Prelude.{if◌then◌else◌}
 use Rattle.plan.specs.Limits.{most_points}
 use Rattle.plan.specs.APlan.{link, point, is, blank, watched, link_to, some, first_that, records_of}
-use Rattle.plan.specs.ReplyNumbers.{read_of, check_of}
+use Rattle.plan.specs.ReplyNumbers.{read_of, check_of, number_in, plan_in}
 use Rattle.plan.specs.declared.Plan.{Plan}
 use Rattle.plan.specs.declared.Refusal.{Refusal}
 use Rattle.records.specs.declared.Record.{Record}
@@ -55,9 +55,9 @@ module _ (rs : List Record) (ok : Accepted rs) where
 
 -- ---- the rooms that were begun agree
 
-module _ (s links rows into out ends kept : List ℕ) (z : (read_of s).number ≡ 0) (f : FilledFrom s links rows into out ends kept) where
+module _ (s links rows into out ends kept : List ℕ) (z : number_in (read_of s) ≡ 0) (f : FilledFrom s links rows into out ends kept) where
   abbrev p : Plan
-  p = (read_of s).plan
+  p = plan_in (read_of s)
 
   checked : (check_of p).number ≡ 0
   checked = ap (λ (x : Refusal). x.number) (read_is_checked s z)
@@ -87,8 +87,8 @@ module _ (s links rows into out ends kept : List ℕ) (z : (read_of s).number �
 
 -- AT THE BEGINNING: a file that is accepted gives rooms that agree with the plain engine at the fresh board
 pub begun_agrees : (s links₀ rows₀ into₀ out₀ ends₀ kept₀ : List ℕ) (r : ℕ) (links rows into out ends kept : List ℕ)
-    → BeginsFrom s links₀ rows₀ into₀ out₀ ends₀ kept₀ r links rows into out ends kept → (read_of s).number ≡ 0
-    → Agrees (read_of s).plan (links_in links) rows into out ends fresh kept
+    → BeginsFrom s links₀ rows₀ into₀ out₀ ends₀ kept₀ r links rows into out ends kept → number_in (read_of s) ≡ 0
+    → Agrees (plan_in (read_of s)) (links_in links) rows into out ends fresh kept
 begun_agrees s links₀ rows₀ into₀ out₀ ends₀ kept₀ r links rows into out ends kept b z = filled_agrees s links rows into out ends kept z (b.taken z)
 
 -- ---- and go on to agree

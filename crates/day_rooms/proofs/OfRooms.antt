@@ -2,10 +2,12 @@
 use mathlib.Core.Path.{◌≡◌, refl, sym, ap, ◌∙◌}
 use mathlib.Core.List.{List}
 use Prim.Native.Nat.{ℕ}
-use Rattle.plan.specs.ReplyNumbers.{read_of, check_of, accepted}
+use Rattle.std.specs.Prelude.{Ok, Err}
+use Rattle.plan.specs.Limits.{most_ordinary}
+use Rattle.plan.specs.ReplyNumbers.{Reading, number_in, place_in, plan_in, read_of, check_of, accepted}
 use Rattle.plan.specs.declared.Plan.{Plan}
-use Rattle.plan.specs.declared.Reading.{Reading}
 use Rattle.plan.specs.declared.Refusal.{Refusal}
+use Rattle.plan.proofs.Limited.{refused_number}
 use Rattle.plan.proofs.RoundTrip.{read_is_checked}
 use Rattle.links.specs.declared.Links.{Links}
 use Rattle.replies.specs.declared.Reply.{Reply}
@@ -24,33 +26,33 @@ pub takes_from : (links rows into out ends kept s : List ℕ) (l : Links) → l 
     → (r : ℕ) → r ≡ answer_of x.number x.place → TakesFrom links rows into out ends kept s r kept'
 takes_from links rows into out ends kept s l e x kept' t r h = record { found = x; takes = rw e at t; answer = h }
 
-module _ (s links₀ rows₀ into₀ out₀ ends₀ kept₀ : List ℕ) (x : Reading) (e : x ≡ read_of s) (r : ℕ) where
-  pub begins_refused : (x.number ≡ 0 → ⊥) → r ≡ answer_of x.number x.place
-      → BeginsFrom s links₀ rows₀ into₀ out₀ ends₀ kept₀ r links₀ rows₀ into₀ out₀ ends₀ kept₀
-  begins_refused h a =
+module _ (s links₀ rows₀ into₀ out₀ ends₀ kept₀ : List ℕ) (r : ℕ) where
+  pub begins_refused : (x : Refusal) → Err x ≡ read_of s → r ≡ answer_of x.number x.place → BeginsFrom s links₀ rows₀ into₀ out₀ ends₀ kept₀ r links₀ rows₀ into₀ out₀ ends₀ kept₀
+  begins_refused x e a =
       record {
-        answer = a ∙ ap (λ (y : Reading). answer_of y.number y.place) e;
+        answer = a ∙ ap (λ (y : Reading). answer_of (number_in y) (place_in y)) e;
         refused = λ n. (refl, refl, refl, refl, refl, refl);
-        taken = λ z. absurd (h (ap (λ (y : Reading). y.number) e ∙ z));
+        taken = λ z. absurd (refused_number most_ordinary s x e (ap number_in e ∙ z));
       }
 
-  -- a plan that was read is accepted
-  checked : x.number ≡ 0 → check_of x.plan ≡ accepted
-  checked h = rw e (read_is_checked s (rw e at h))
+  module _ (p : Plan) (e : Ok p ≡ read_of s) where
+    -- a plan that was read is accepted
+    checked : check_of p ≡ accepted
+    checked = rw (ap plan_in e) (read_is_checked s (sym (ap number_in e)))
 
-  pub begins_taken : x.number ≡ 0 → (y : Started) (links rows into out ends kept : List ℕ) → BeginsWith x.plan y rows₀ into₀ out₀ ends₀ kept₀ rows into out ends kept
-      → links ≡ links_room y.links → r ≡ answer_of x.number x.place
-      → BeginsFrom s links₀ rows₀ into₀ out₀ ends₀ kept₀ r links rows into out ends kept
-  begins_taken h y links rows into out ends kept b l a =
-      record {
-        answer = a ∙ ap (λ (w : Reading). answer_of w.number w.place) e;
-        refused = λ z. absurd (z (sym (ap (λ (w : Reading). w.number) e) ∙ h));
-        taken =
-            λ z. record {
-              room = rw e at b.room;
-              of = y.links;
-              are = rw e at b.links;
-              held = l;
-              rooms = rw e at (b.taken (ap (λ (w : Refusal). w.number) (checked h)));
-            };
-      }
+    pub begins_taken : (y : Started) (links rows into out ends kept : List ℕ) → BeginsWith p y rows₀ into₀ out₀ ends₀ kept₀ rows into out ends kept
+        → links ≡ links_room y.links → r ≡ answer_of 0 0 → BeginsFrom s links₀ rows₀ into₀ out₀ ends₀ kept₀ r links rows into out ends kept
+    begins_taken y links rows into out ends kept b l a =
+        let plan_is : p ≡ plan_in (read_of s) = ap plan_in e in
+        record {
+          answer = a ∙ ap (λ (w : Reading). answer_of (number_in w) (place_in w)) e;
+          refused = λ z. absurd (z (sym (ap number_in e)));
+          taken =
+              λ z. record {
+                room = rw plan_is at b.room;
+                of = y.links;
+                are = rw plan_is at b.links;
+                held = l;
+                rooms = rw plan_is at (b.taken (ap (λ (w : Refusal). w.number) checked));
+              };
+        }

@@ -3,7 +3,7 @@
 use Rattle.std.specs.Prelude.{◌≡◌, ◌≢◌, List, [], ◌∷◌, ℕ, length}
 use Rattle.plan.specs.Limits.{most_records}
 use Rattle.plan.specs.APlan.{records_of}
-use Rattle.plan.specs.ReplyNumbers.{read_of}
+use Rattle.plan.specs.ReplyNumbers.{read_of, number_in, place_in, plan_in}
 use Rattle.plan.specs.declared.Refusal.{Refusal}
 use Rattle.links.specs.Inside.{LinksOf}
 use Rattle.links.specs.declared.Links.{Links}
@@ -15,17 +15,17 @@ use Rattle.hulls.specs.Rooms.{links_in, links_room, reply_room}
 
 -- the rooms of the plan of an accepted file s at the fresh board
 pub record FilledFrom (s links rows into out ends kept : List ℕ) : Type 0 where
-  pub room : length (read_of s).plan.records ≡ most_records
+  pub room : length (plan_in (read_of s)).records ≡ most_records
   pub of : Links
-  pub are : LinksOf (records_of (read_of s).plan) of
+  pub are : LinksOf (records_of (plan_in (read_of s))) of
   pub held : links ≡ links_room of
-  pub rooms : Filled (records_of (read_of s).plan) rows into out ends kept
+  pub rooms : Filled (records_of (plan_in (read_of s))) rows into out ends kept
 
 -- the file's own refusal, and every room as it was; or 0, and the rooms are filled
 pub record BeginsFrom (s links₀ rows₀ into₀ out₀ ends₀ kept₀ : List ℕ) (r : ℕ) (links rows into out ends kept : List ℕ) : Type 0 where
-  pub answer : r ≡ answer_of (read_of s).number (read_of s).place
-  pub refused : (read_of s).number ≢ 0 → (links ≡ links₀) × (rows ≡ rows₀) × (into ≡ into₀) × (out ≡ out₀) × (ends ≡ ends₀) × (kept ≡ kept₀)
-  pub taken : (read_of s).number ≡ 0 → FilledFrom s links rows into out ends kept
+  pub answer : r ≡ answer_of (number_in (read_of s)) (place_in (read_of s))
+  pub refused : number_in (read_of s) ≢ 0 → (links ≡ links₀) × (rows ≡ rows₀) × (into ≡ into₀) × (out ≡ out₀) × (ends ≡ ends₀) × (kept ≡ kept₀)
+  pub taken : number_in (read_of s) ≡ 0 → FilledFrom s links rows into out ends kept
 
 -- an event's number and the record beside it, and the room after it
 pub record TakesFrom (links rows into out ends kept₀ s : List ℕ) (r : ℕ) (kept : List ℕ) : Type 0 where

@@ -26,14 +26,14 @@ pub fn begin_file(
 ) -> u64
     ensures { BeginsFrom file.now links.old rows.old into.old out.old ends.old kept.old result links.new rows.new into.new out.new ends.new kept.new }
 {
-    let reading = read(file);
-    if reading.number != ACCEPTED {
-        return answer(reading.number, reading.place);
-    }
-    let started = begin(reading.plan, rows, into, out, ends, kept);
+    let plan = match read(file) {
+        Ok(plan) => plan,
+        Err(refusal) => return answer(refusal.number, refusal.place),
+    };
+    let started = begin(plan, rows, into, out, ends, kept);
     let room = links_room(started.links);
     *links = room;
-    answer(reading.number, reading.place)
+    answer(ACCEPTED, 0)
 }
 
 // Takes an event: 21 to 30 with the record beside 28, and the room as it was; or 0, and its points are done.

@@ -3,12 +3,11 @@
 use crate::made::write_plan;
 use crate::say::{Out, say};
 use closure::close;
-use plan::{ACCEPTED, Plan};
+use plan::Plan;
 
 pub(crate) fn write_closed(rt: HostRuntime, plan: Plan) {
-    let made = close(plan);
-    if made.number != ACCEPTED {
-        return say(rt, Out::Error, answers::close_refused(made.number));
+    match close(plan) {
+        Ok(made) => write_plan(rt, made),
+        Err(refusal) => say(rt, Out::Error, answers::close_refused(refusal.number)),
     }
-    write_plan(rt, made.plan)
 }

@@ -31,7 +31,7 @@ fn say_steps(rt: HostRuntime, way: Way) {
 // The lines of a no.
 fn say_why(rt: HostRuntime, why: Why) {
     say_drives(rt, why.drives);
-    if why.shortest.there {
+    if why.shortest.is_some() {
         say(rt, Out::Output, shortest_line(why.shortest));
         say(rt, Out::Output, allowed_line(why.allowed));
     }
@@ -43,7 +43,7 @@ pub(crate) fn tell(rt: HostRuntime, plan: Plan) {
     let told = explain_of(plan);
     let answer = told.answer;
     say(rt, Out::Output, text::test_line(answer));
-    if told.why.sum.there {
+    if told.why.sum.is_some() {
         say_why(rt, told.why);
     }
 }

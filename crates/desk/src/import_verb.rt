@@ -4,35 +4,34 @@ use crate::input::piece_room;
 use crate::made::write_plan;
 use crate::say::{Out, say};
 use handles::read_full;
-use office::{Feeding, Imported, begin, feed, finish};
-use plan::ACCEPTED;
+use office::{Feeding, Refused, begin, feed, finish};
+use plan::Plan;
 use std::io::Stdin;
 
 // What is known after all of the input.
 fn fed(input: Stdin, room: &mut [u8]) -> Feeding {
     let mut state = begin();
-    let mut turns = u64::MAX;
-    while turns > 0 {
+    for _ in 0..u64::MAX {
         let n = read_full(input, room);
         state = feed(state, &room[..n]);
         if n < room.len() {
             break;
         }
-        turns -= 1;
     }
     state
 }
 
-fn imported(input: Stdin) -> Imported {
+fn imported(input: Stdin) -> Result<Plan, Refused> {
     let mut room = piece_room();
     finish(fed(input, &mut room))
 }
 
 pub(crate) fn run(rt: HostRuntime) {
-    let answer = imported(rt.stdin());
-    if answer.number != ACCEPTED {
-        let line = answers::import_refused(answer.number, answer.line as u64);
-        return say(rt, Out::Error, line);
+    match imported(rt.stdin()) {
+        Ok(plan) => write_plan(rt, plan),
+        Err(refused) => {
+            let line = answers::import_refused(refused.number, refused.line as u64);
+            say(rt, Out::Error, line)
+        }
     }
-    write_plan(rt, answer.plan)
 }

@@ -4,19 +4,16 @@ ghost use Rattle.std.specs.Prelude.{◌≡◌, length};
 use handles::read_full;
 use plan::{MOST_RECORDS, RECORD_BYTES};
 use std::io::Stdin;
-use std::num::wrapping_add_u64;
 
 // Passes over all that is left of the input, and answers how many bytes that was.
 fn pass_over(input: Stdin, rest: &mut [u8]) -> u64 {
     let mut total: u64 = 0;
-    let mut turns = u64::MAX;
-    while turns > 0 {
+    for _ in 0..u64::MAX {
         let n = read_full(input, rest);
-        total = wrapping_add_u64(total, n as u64);
+        total = total.wrapping_add(n as u64);
         if n < rest.len() {
             break;
         }
-        turns -= 1;
     }
     total
 }
@@ -28,7 +25,7 @@ pub(crate) fn read_all(input: Stdin, front: &mut [u8]) -> u64 {
         return n as u64;
     }
     let mut room = piece_room();
-    wrapping_add_u64(n as u64, pass_over(input, &mut room))
+    (n as u64).wrapping_add(pass_over(input, &mut room))
 }
 
 // So many bytes are read at once where the input is not held.

@@ -3,7 +3,7 @@
 use crate::made::write_plan;
 use crate::say::{Out, say};
 use lighter::{Lighter, lighter_of};
-use plan::{ACCEPTED, MOST_RECORDS, Plan};
+use plan::{MOST_RECORDS, Plan};
 
 // A line for each record that went.
 fn say_dropped(rt: HostRuntime, made: Lighter) {
@@ -17,10 +17,11 @@ fn say_dropped(rt: HostRuntime, made: Lighter) {
 }
 
 pub(crate) fn write_lighter(rt: HostRuntime, plan: Plan) {
-    let made = lighter_of(plan);
-    if made.number != ACCEPTED {
-        return say(rt, Out::Error, answers::lighter_refused(made.number));
+    match lighter_of(plan) {
+        Err(refusal) => say(rt, Out::Error, answers::lighter_refused(refusal.number)),
+        Ok(made) => {
+            write_plan(rt, made.plan);
+            say_dropped(rt, made)
+        }
     }
-    write_plan(rt, made.plan);
-    say_dropped(rt, made)
 }

@@ -3,8 +3,7 @@
 // is held whole, so one that is longer than any day is wrong usage.
 use crate::input::read_all;
 use crate::say::{Out, put, say};
-use listing::{A_LONGER_BUFFER, Packed, pack};
-use plan::ACCEPTED;
+use listing::{A_LONGER_BUFFER, Refused, pack};
 use stream::within;
 
 // What was expected, by its number.
@@ -43,13 +42,13 @@ fn say_expected(rt: HostRuntime, number: u32) {
 }
 
 // What is said of a bad line, or of a listing that makes too many records.
-fn refused(rt: HostRuntime, answer: Packed) {
-    if A_LONGER_BUFFER <= answer.number {
+fn refuse(rt: HostRuntime, refused: Refused) {
+    if A_LONGER_BUFFER <= refused.number {
         put(rt, Out::Error, &TOO_LONG);
         return;
     }
-    say_expected(rt, answer.number);
-    let line = (answer.line % 4294967296) as u32;
+    say_expected(rt, refused.number);
+    let line = (refused.line % 4294967296) as u32;
     say(rt, Out::Error, answers::line_number(line))
 }
 
@@ -57,12 +56,13 @@ fn refused(rt: HostRuntime, answer: Packed) {
 fn packed(rt: HostRuntime, text: &[u8], length: usize) {
     let mut room = io::large_buffer();
     let n = within(length, text);
-    let answer = pack(&text[..n], &mut room);
-    if answer.number != ACCEPTED {
-        return refused(rt, answer);
+    match pack(&text[..n], &mut room) {
+        Ok(written) => {
+            let m = within(written, &room);
+            put(rt, Out::Output, &room[..m]);
+        }
+        Err(refused) => refuse(rt, refused),
     }
-    let m = within(answer.length, &room);
-    put(rt, Out::Output, &room[..m]);
 }
 
 pub(crate) fn run(rt: HostRuntime) {

@@ -8,7 +8,7 @@ use crate::list_verb::say_records;
 use crate::say::{Out, say};
 use crate::{explain_verb, test_verb, worst_verb};
 use asks::Asked;
-use plan::{ACCEPTED, Plan};
+use plan::Plan;
 use stream::read_front;
 
 // What the plan test says.
@@ -56,9 +56,8 @@ pub(crate) fn run(rt: HostRuntime, ask: Asked, refusals: Out) {
     let mut room = plan_room();
     let front: &mut [u8] = &mut room;
     let length = read_all(rt.stdin(), front);
-    let reading = read_front(length, front);
-    if reading.number != ACCEPTED {
-        return say(rt, refusals, text::plan_line(reading.number, reading.place));
+    match read_front(length, front) {
+        Ok(plan) => told(rt, ask, plan, front, length),
+        Err(refusal) => say(rt, refusals, text::plan_line(refusal.number, refusal.place)),
     }
-    told(rt, ask, reading.plan, front, length)
 }

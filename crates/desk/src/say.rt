@@ -1,7 +1,6 @@
 // A line on its way out.
 use handles::{complain, write_all};
 use lines::Line;
-use stream::within;
 
 // Where it goes: what was asked for to standard output, and a refusal to standard error.
 #[derive(Clone, Copy)]
@@ -18,7 +17,5 @@ pub(crate) fn put(rt: HostRuntime, out: Out, bytes: &[u8]) {
 }
 
 pub(crate) fn say(rt: HostRuntime, out: Out, line: Line) {
-    let bytes = line.bytes;
-    let n = within(line.len, &bytes);
-    put(rt, out, &bytes[..n]);
+    put(rt, out, line.text());
 }

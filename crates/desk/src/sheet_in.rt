@@ -6,7 +6,7 @@ ghost use Rattle.plan.specs.Limits.{record_bytes};
 use board::SAID;
 use handles::read_full;
 use std::io::Stdin;
-use stream::{PLAYING, Sheet};
+use stream::{Sheet, Stage};
 
 const RECORD: usize = plan::RECORD_BYTES;
 
@@ -27,9 +27,10 @@ fn planned(sheet: Sheet, chunk: &[u8], n: usize) -> Passed
     ensures { result.past ≤ n }
 {
     let mut now = sheet;
+    // how many are passed is answered too, so the count goes on behind the loop, which may stop early
     let mut i: usize = 0;
     while i < n {
-        if now.stage == PLAYING {
+        if now.stage == Stage::Playing {
             break;
         }
         let at = RECORD * i;
@@ -48,7 +49,7 @@ fn taken(sheet: Sheet, chunk: &[u8], n: usize) -> Sheet
 {
     let front = planned(sheet, chunk, n);
     let now = front.sheet;
-    if now.stage != PLAYING {
+    if now.stage != Stage::Playing {
         return now;
     }
     let mut space = [0u32; SAID * MANY];
@@ -62,14 +63,12 @@ pub(crate) fn sheet_in(input: Stdin) -> Sheet {
     let chunk: &mut [u8] = &mut room;
     let mut sheet = Sheet::new();
     let mut n: usize = 0;
-    let mut turns = u64::MAX;
-    while turns > 0 {
+    for _ in 0..u64::MAX {
         n = read_full(input, chunk);
         sheet = taken(sheet, chunk, n / RECORD);
         if n < chunk.len() {
             break;
         }
-        turns -= 1;
     }
     sheet.ended((n % RECORD) as u64, chunk)
 }

@@ -6,14 +6,14 @@
 ghost use Rattle.std.specs.Prelude.{◌≡◌};
 ghost use Rattle.ended_files.specs.Ended.{verdict_file, stamp_of, calendar_file, calendar_left, calendar_answer};
 
-use calendar::{Calendar, write_by};
+use calendar::write_by;
 use codes::ponds_of;
 use dates::Stamp;
 use engine::KEPT;
-use halves::{answer_with, half};
+use halves::{answer, half};
 use hulls::board_in;
 use links::links_by;
-use plan::ACCEPTED;
+use plan::{ACCEPTED, Refusal};
 use plan_file::read;
 use verdict::{Verdict, verdict_of};
 
@@ -21,30 +21,29 @@ use verdict::{Verdict, verdict_of};
 pub fn verdict_file(file: &[u8], kept: &[u32; KEPT]) -> Verdict
     ensures { result ≡ verdict_file file.now kept.now }
 {
-    let reading = read(file);
-    if reading.number != ACCEPTED {
-        return Verdict::Refused(reading.number, reading.place);
+    match read(file) {
+        Ok(plan) => verdict_of(plan, board_in(kept)),
+        Err(refusal) => Verdict::Refused(refusal.number, refusal.place),
     }
-    let board = board_in(kept);
-    verdict_of(reading.plan, board)
 }
 
 // The calendar, at the front of the buffer.
-pub fn calendar_file(file: &[u8], kept: &[u32; KEPT], origin: Stamp, out: &mut [u8]) -> Calendar
+pub fn calendar_file(
+    file: &[u8],
+    kept: &[u32; KEPT],
+    origin: Stamp,
+    out: &mut [u8],
+) -> Result<usize, Refusal>
     ensures reply { result ≡ calendar_file file.now kept.now origin out.old }
     ensures bytes { out.new ≡ calendar_left file.now kept.now origin out.old }
 {
-    let reading = read(file);
-    if reading.number != ACCEPTED {
-        return Calendar {
-            number: reading.number,
-            place: reading.place,
-            length: 0,
-        };
-    }
+    let plan = match read(file) {
+        Ok(plan) => plan,
+        Err(refusal) => return Err(refusal),
+    };
     let board = board_in(kept);
-    let links = links_by(reading.plan, true);
-    write_by(links, ponds_of(reading.plan), board, origin, out)
+    let links = links_by(plan, true);
+    write_by(links, ponds_of(plan), board, origin, out)
 }
 
 // The same, minute 0 being the date, hour and minute that are given: the refusal, or 0 with the text's length.
@@ -62,12 +61,14 @@ pub fn tell_calendar(
     ensures bytes { out.new ≡ calendar_left file.now kept.now (stamp_of year month day hour minute) out.old }
 {
     let origin = Stamp {
-        year: year,
-        month: month,
-        day: day,
-        hour: hour,
-        minute: minute,
+        year,
+        month,
+        day,
+        hour,
+        minute,
     };
-    let made = calendar_file(file, kept, origin, out);
-    answer_with(made.number, made.place, half(made.length))
+    match calendar_file(file, kept, origin, out) {
+        Ok(length) => answer(ACCEPTED, half(length)),
+        Err(refusal) => answer(refusal.number, refusal.place),
+    }
 }

@@ -46,8 +46,8 @@ pub fn board_of(kept: &[u32; KEPT]) -> Board
     Board {
         clock: kept[CLOCK],
         done: kept[DONE],
-        minutes: minutes,
-        calls: calls,
+        minutes,
+        calls,
     }
 }
 

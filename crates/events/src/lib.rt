@@ -7,11 +7,11 @@
 ghost use Rattle.std.specs.Prelude.{◌≡◌, [], ◌∷◌, ◌+◌, ◌^◌, ◌≤◌, ◌<◌, min, length, set};
 ghost use Rattle.std.proofs.lemmas.List.Edits.{sets};
 ghost use Rattle.plan.specs.Limits.{record_bytes};
-ghost use Rattle.plan.specs.PlanFile.{word_at};
 ghost use Rattle.events.specs.Fields.{event_set, well_formed};
 ghost use Rattle.events.specs.Inside.{event_in};
 
 use history::first_points;
+use numbers::word_at;
 use plan::RECORD_BYTES;
 use points::subset;
 
@@ -25,21 +25,6 @@ pub struct Event {
 
 // No foreman's point.
 pub const NO_POINT: u8 = 255;
-
-fn byte(x: u8) -> u32
-    ensures { (result ≡ x) × (result ≤ 255) }
-{
-    x as u32
-}
-
-// The number that four bytes stand for.
-fn word_at(bytes: &[u8], at: usize) -> u32
-    requires { at + 4 ≤ length bytes.now }
-    ensures { result ≡ word_at bytes.now at }
-{
-    byte(bytes[at])
-        + 256 * (byte(bytes[at + 1]) + 256 * (byte(bytes[at + 2]) + 256 * byte(bytes[at + 3])))
-}
 
 pub fn event_in(bytes: &[u8]) -> Event
     requires { record_bytes ≤ length bytes.now }
@@ -63,7 +48,9 @@ pub fn is_formed(bytes: &[u8], n: u32) -> bool
     let e = event_in(bytes);
     let no_point = e.point == NO_POINT;
     let all = first_points(n);
-    blank & ((no_point | (byte(e.point) < n)) & (subset(e.set, all) & !(no_point & (e.set == 0))))
+    blank
+        & ((no_point | (u32::from(e.point) < n))
+            & (subset(e.set, all) & !(no_point & (e.set == 0))))
 }
 
 fn put(room: &mut [u32], at: usize, x: u32)
@@ -87,5 +74,5 @@ pub fn put_four(room: &mut [u32], at: usize, x: u32, y: u32, z: u32, u: u32)
 pub fn fewer(a: usize, b: usize) -> usize
     ensures { result ≡ min a b }
 {
-    if a < b { a } else { b }
+    a.min(b)
 }

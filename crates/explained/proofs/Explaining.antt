@@ -21,6 +21,7 @@ use Rattle.rows.specs.Layout.{row_of, RowIs, LaidOut}
 use Rattle.rows.proofs.Lays.{inside}
 use Rattle.projection.specs.Judging.{FirstBad}
 use Rattle.projection.proofs.Laws.{ends, fine_outside}
+use Rattle.vee.specs.declared.Answer.{Answer}
 use Rattle.vee.specs.declared.Answer.TheVariants as answer
 use Rattle.vee.specs.PlanTest.{spans, projections, unset, many, most_projections, edges_of, Found, good, cycle, pair, Tested, tested}
 use Rattle.vee.specs.Walked.{spans_in, WalkReady, RowsReady, CountedAs}
@@ -32,7 +33,8 @@ use Rattle.vee.proofs.Testing.{accepted_plan, links_are, may_walk}
 use Rattle.choices.specs.Choices.{chosen, ChooseAsks, ChosenAs}
 use Rattle.choices.proofs.Decoding.{numbered, projection_chosen}
 use Rattle.lengths.specs.declared.Length.{Length}
-use Rattle.lengths.specs.Lengths.{length_of, no_length, Least, nothing, least}
+use Rattle.std.specs.Prelude.{Option, None, Some}
+use Rattle.lengths.specs.Lengths.{length_of, Least, nothing, least}
 use Rattle.ways.specs.declared.steps.Step.{Step}
 use Rattle.ways.specs.Steps.{Leads, ups, downs, StepIn}
 use Rattle.ways.proofs.Laws.{all_over}
@@ -196,7 +198,7 @@ module _ (p : Plan) (ok : (check_of p).number ≡ 0) (few : many (spans (records
     vee_over : {E F : ℕ → ℕ → ℕ → ℕ → Type 0} → ((X Y u d : ℕ) → E X Y u d → F X Y u d) → {X Y u d : ℕ} → Vee E X Y u d → Vee F X Y u d
     vee_over f (vee a b) = vee (over (λ X Y u d e. record { edge = f X Y u d e.edge; below = e.below }) a) (over (λ X Y u d e. record { edge = f X Y u d e.edge; above = e.above }) b)
 
-    least_over : {X Y : ℕ} {l : Length} → Least (Vee (SheetEdge s w p.count) X Y) l → Least (Vee (edges_of (records_of p) w) X Y) l
+    least_over : {X Y : ℕ} {l : Option Length} → Least (Vee (SheetEdge s w p.count) X Y) l → Least (Vee (edges_of (records_of p) w) X Y) l
     least_over (nothing f) = nothing (λ u d g. f u d (vee_over back g))
     least_over (least a f) = least (vee_over there a) (λ u d g. f u d (vee_over back g))
 
@@ -208,7 +210,7 @@ module _ (p : Plan) (ok : (check_of p).number ≡ 0) (few : many (spans (records
 
     pub plan_rounded : Tested p (answer.Cycle i) → {y : Why} → RoundShown s w p.count y → Explained p (explanation_as (answer.Cycle i) y)
     plan_rounded t {y} g =
-        let e : y ≡ why_as (drives_of (durations_of p i) (records_of p)) no_length no_length g.steps = g.is ∙ rw (drives_are, durations_are) refl in
+        let e : y ≡ why_as (drives_of (durations_of p i) (records_of p)) None None g.steps = g.is ∙ rw (drives_are, durations_are) refl in
         rw e (by_cycle g.at g.steps t (rw durations_are at (steps_are g.steps g.each)) g.leads g.below)
 
     -- a pair
@@ -230,8 +232,8 @@ module _ (p : Plan) (ok : (check_of p).number ≡ 0) (few : many (spans (records
 
       pub plan_paired : Tested p (answer.Pair i X Y) → {y : Why} → PairShown s w p.count X Y y → Explained p (explanation_as (answer.Pair i X Y) y)
       plan_paired t {y} g =
-          let e : y ≡ why_as (drives_of (durations_of p i) (records_of p)) (length_of (ups g.steps) (downs g.steps)) g.best g.steps = g.is ∙ rw (drives_are, durations_are) refl in
-          let l : Least (Walk (edges_of (records_of p) w) X Y) (length_of (ups g.steps) (downs g.steps)) = least (over there (walked g.steps X Y g.each g.leads)) (λ u d z. g.least u d (over back z)) in
+          let e : y ≡ why_as (drives_of (durations_of p i) (records_of p)) (Some (length_of (ups g.steps) (downs g.steps))) g.best g.steps = g.is ∙ rw (drives_are, durations_are) refl in
+          let l : Least (Walk (edges_of (records_of p) w) X Y) (Some (length_of (ups g.steps) (downs g.steps))) = least (over there (walked g.steps X Y g.each g.leads)) (λ u d z. g.least u d (over back z)) in
           rw e (by_pair g.steps t (rw durations_are at (steps_are g.steps g.each)) g.leads (rw durations_are at l) (rw durations_are at (least_over g.allowed)))
 
 -- ---- nothing to explain
@@ -240,11 +242,11 @@ never_refused : {E : List ℕ → ℕ → ℕ → ℕ → ℕ → Type 0} {i n j
 never_refused (good g f) = never_refused f
 
 module _ {p : Plan} where
-  pub plain_refused : {n i : ℕ} → Tested p (answer.Refused n i) → {x : Explanation} → x ≡ nothing_more (answer.Refused n i) → Explained p x
-  plain_refused t e = rw e (plainly t refl)
-
-  pub plain_yes : {k : ℕ} → Tested p (answer.Yes k) → {x : Explanation} → x ≡ nothing_more (answer.Yes k) → Explained p x
-  plain_yes t e = rw e (plainly t refl)
+  pub plain : (r : Answer) → ((i : ℕ) → r ≡ answer.Cycle i → ⊥) → ((i X Y : ℕ) → r ≡ answer.Pair i X Y → ⊥) → Tested p r → {x : Explanation} → x ≡ nothing_more r → Explained p x
+  plain (answer.Refused n i) no_cycle no_pair t e = rw e (plainly t refl)
+  plain (answer.Yes k) no_cycle no_pair t e = rw e (plainly t refl)
+  plain (answer.Cycle i) no_cycle no_pair t e = absurd (no_cycle i refl)
+  plain (answer.Pair i X Y) no_cycle no_pair t e = absurd (no_pair i X Y refl)
 
 -- ---- the number of projections, as the code counts them
 

@@ -18,7 +18,8 @@ use Rattle.rows.specs.Sheet.{SheetEdge, SheetReady}
 use Rattle.rows.specs.Filled.{Filled}
 use Rattle.projection.proofs.Judges.{all_edges, part_cycle}
 use Rattle.lengths.specs.declared.Length.{Length}
-use Rattle.lengths.specs.Lengths.{length_of, no_length, Least}
+use Rattle.std.specs.Prelude.{Option, None, Some}
+use Rattle.lengths.specs.Lengths.{length_of, Least}
 use Rattle.lengths.specs.Meets.{AllowAsks}
 use Rattle.ways.specs.declared.steps.Step.{Step}
 use Rattle.ways.specs.declared.steps.Way.{Way}
@@ -79,8 +80,8 @@ module _ {s w : List ℕ} {m n x y : ℕ} (a : PairIn s w m n x y) where
         pub pair_sums : SumAsks z.count z.steps
         pair_sums = sums a.ready g.steps g.is (omega (arith, g.few)) g.each
 
-        pub pair_shown : {l best : Length} {ds : Drives} → l ≡ length_of (ups (steps_of z)) (downs (steps_of z)) → Least (Vee (SheetEdge s w m) x y) best → ds ≡ drives_as (drives_from s w 0 m)
-            → PairShown s w m x y (record { drives = ds; shortest = l; allowed = best; way = z; sum = l })
+        pub pair_shown : {l : Length} {best : Option Length} {ds : Drives} → l ≡ length_of (ups (steps_of z)) (downs (steps_of z)) → Least (Vee (SheetEdge s w m) x y) best → ds ≡ drives_as (drives_from s w 0 m)
+            → PairShown s w m x y (record { drives = ds; shortest = Some l; allowed = best; way = z; sum = Some l })
         pair_shown {l} {best} el eb ed =
             let e = steps_of_lem g.steps g.is in
             record {
@@ -103,8 +104,8 @@ module _ {s w : List ℕ} {m n : ℕ} (a : RoundIn s w m n) where
     pub round_sums : SumAsks z.count z.steps
     round_sums = sums a.ready g.steps g.is g.few g.each
 
-    pub round_shown : {l o : Length} {ds : Drives} → l ≡ length_of (ups (steps_of z)) (downs (steps_of z)) → o ≡ no_length → ds ≡ drives_as (drives_from s w 0 m)
-        → RoundShown s w m (record { drives = ds; shortest = o; allowed = o; way = z; sum = l })
-    round_shown el eo ed =
+    pub round_shown : {l : Length} {ds : Drives} → l ≡ length_of (ups (steps_of z)) (downs (steps_of z)) → ds ≡ drives_as (drives_from s w 0 m)
+        → RoundShown s w m (record { drives = ds; shortest = None; allowed = None; way = z; sum = Some l })
+    round_shown el ed =
         let e = steps_of_lem g.steps g.is in
-        record { steps = g.steps; is = rw (el, eo, ed, e, g.is) refl; each = g.each; at = g.at; leads = g.leads; below = g.below }
+        record { steps = g.steps; is = rw (el, ed, e, g.is) refl; each = g.each; at = g.at; leads = g.leads; below = g.below }

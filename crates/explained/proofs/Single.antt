@@ -9,12 +9,13 @@ use Rattle.vee.specs.declared.Answer.{Answer}
 use Rattle.vee.specs.declared.Answer.TheVariants as answer
 use Rattle.vee.proofs.Single.{one_answer}
 use Rattle.lengths.specs.declared.Length.{Length}
+use Rattle.std.specs.Prelude.{Option}
 use Rattle.lengths.specs.Lengths.{Least, nothing, least}
 use Rattle.explained.specs.declared.Explanation.{Explanation}
 use Rattle.explained.specs.Explained.{says_no, Explained, plainly, by_cycle, by_pair}
 
 -- there is one least length
-pub one_least : {W : ℕ → ℕ → Type 0} {a b : Length} → Least W a → Least W b → a ≡ b
+pub one_least : {W : ℕ → ℕ → Type 0} {a b : Option Length} → Least W a → Least W b → a ≡ b
 one_least (nothing f) (nothing g) = refl
 one_least (nothing f) (least b g) = absurd (f _ _ b)
 one_least (least a f) (nothing g) = absurd (g _ _ a)

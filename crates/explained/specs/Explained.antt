@@ -1,6 +1,6 @@
 -- Why the plan test says no, document 01, "Verdict and plan test", in numbers and steps. A length is up − down. Which shortest way and
 -- which cycle is shown is open: every one is right. Assumes nothing.
-use Rattle.std.specs.Prelude.{◌≡◌, Bool, true, false, List, [], ◌∷◌, ℕ, ◌<◌, length, get_or}
+use Rattle.std.specs.Prelude.{◌≡◌, Bool, true, false, List, [], ◌∷◌, ℕ, ◌<◌, length, get_or, Option, None, Some}
 use Rattle.numbers.specs.Fits.{All}
 use Rattle.plan.specs.APlan.{blank, records_of}
 use Rattle.records.specs.declared.Record.{Record}
@@ -11,7 +11,7 @@ use Rattle.vee.specs.declared.Answer.TheVariants as answer
 use Rattle.vee.specs.PlanTest.{spans, projections, unset, edges_of, Tested}
 use Rattle.vee.specs.TestOf.{Arc, arc, arcs_of}
 use Rattle.lengths.specs.declared.Length.{Length}
-use Rattle.lengths.specs.Lengths.{length_of, no_length, Least}
+use Rattle.lengths.specs.Lengths.{length_of, Least}
 use Rattle.ways.specs.declared.steps.Step.{Step}
 use Rattle.ways.specs.Steps.{Leads, ups, downs, way_as}
 use Rattle.explained.specs.declared.reasons.Why.{Why}
@@ -45,7 +45,7 @@ explanation_as r y = record { answer = r; why = y }
 
 -- nothing is to be explained
 abbrev pub nothing_more : Answer → Explanation
-nothing_more r = explanation_as r (record { drives = drives_as []; shortest = no_length; allowed = no_length; way = way_as []; sum = no_length })
+nothing_more r = explanation_as r (record { drives = drives_as []; shortest = None; allowed = None; way = way_as []; sum = None })
 
 -- the answer to the plan p: what the test says, and where that is no, the drives of the projection that fails. For a cycle, steps that
 -- lead from a point back to it and come to less than zero; for a pair, the shortest length, the best that a walk of negative edges and
@@ -53,7 +53,7 @@ nothing_more r = explanation_as r (record { drives = drives_as []; shortest = no
 pub data Explained (p : Plan) : Explanation → Type 0 where
   plainly : {r : Answer} → Tested p r → says_no r ≡ false → Explained p (nothing_more r)
   by_cycle : {i : ℕ} (at : ℕ) (es : List Step) → Tested p (answer.Cycle i) → All (StepOf (records_of p) (durations_of p i)) es → Leads es at at → ups es < downs es
-      → Explained p (explanation_as (answer.Cycle i) (why_as (drives_of (durations_of p i) (records_of p)) no_length no_length es))
-  by_pair : {i X Y : ℕ} (es : List Step) {best : Length} → Tested p (answer.Pair i X Y) → All (StepOf (records_of p) (durations_of p i)) es → Leads es X Y
-      → Least (Walk (edges_of (records_of p) (durations_of p i)) X Y) (length_of (ups es) (downs es)) → Least (Vee (edges_of (records_of p) (durations_of p i)) X Y) best
-      → Explained p (explanation_as (answer.Pair i X Y) (why_as (drives_of (durations_of p i) (records_of p)) (length_of (ups es) (downs es)) best es))
+      → Explained p (explanation_as (answer.Cycle i) (why_as (drives_of (durations_of p i) (records_of p)) None None es))
+  by_pair : {i X Y : ℕ} (es : List Step) {best : Option Length} → Tested p (answer.Pair i X Y) → All (StepOf (records_of p) (durations_of p i)) es → Leads es X Y
+      → Least (Walk (edges_of (records_of p) (durations_of p i)) X Y) (Some (length_of (ups es) (downs es))) → Least (Vee (edges_of (records_of p) (durations_of p i)) X Y) best
+      → Explained p (explanation_as (answer.Pair i X Y) (why_as (drives_of (durations_of p i) (records_of p)) (Some (length_of (ups es) (downs es))) best es))

@@ -1,13 +1,13 @@
 // The durations of a projection by its number, and the drives that they are: one for each link, in file order.
 ghost use Rattle.std.specs.Prelude.{◌≡◌, [], ◌<◌, ◌≤◌};
-ghost use Rattle.vee.specs.Walked.{RowsReady, CountedAs};
 ghost use Rattle.choices.specs.Choices.{ChosenAs};
 ghost use Rattle.explained.specs.Drives.{DurationAsks, with_drive, DriveAsks, drives_as, drives_from, most_links};
 
 use choices::chosen;
-use plan::{LINK, MOST_LINKS};
-use rows::{Row, SHEET, index, row_at};
+use plan::MOST_LINKS;
+use rows::{LINK_ROW, Row, SHEET, row_at};
 use tables::SIDE;
+use vee::projections;
 
 // The A and the C of a link, and how long it lasts.
 #[derive(Clone, Copy)]
@@ -26,32 +26,12 @@ const NO_DRIVE: Drive = Drive {
     minutes: 0,
 };
 
-const LINK_ROW: u64 = LINK as u64;
-
-// The most projections that are tested.
-const MOST_PROJECTIONS: u64 = 4096;
-
 // So many drives; the room after them is zero.
+// A room with its length beside it: the project has no heap.
 #[derive(Clone, Copy)]
 pub struct Drives {
     pub count: usize,
     pub list: [Drive; LINKS],
-}
-
-// How many projections the links of the `links` rows before row `past` have; once there are too many, some number that is too many.
-fn projections(sheet: &[u32; SHEET], past: usize, links: usize) -> u64
-    requires { RowsReady sheet.now past links }
-    ensures { CountedAs sheet.now past links result }
-{
-    let mut total: u64 = 1;
-    for k in 0..links {
-        let row = row_at(sheet, past - (k + 1));
-        total = (row.second + 1 - row.first) * total;
-        if MOST_PROJECTIONS < total {
-            return total;
-        }
-    }
-    total
 }
 
 // The durations of projection `number`.
@@ -72,10 +52,7 @@ pub(crate) fn no_drives() -> Drives
     ensures { result ≡ drives_as [] }
 {
     let list = [NO_DRIVE; LINKS];
-    Drives {
-        count: 0,
-        list: list,
-    }
+    Drives { count: 0, list }
 }
 
 // The drives with that of a row more, if it is a link, which lasts `p`.
@@ -95,7 +72,7 @@ fn with_drive(drives: Drives, row: Row, p: u64) -> Drives
     };
     Drives {
         count: count + 1,
-        list: list,
+        list,
     }
 }
 
@@ -107,7 +84,7 @@ pub(crate) fn drives_of(sheet: &[u32; SHEET], durations: &[u64; SIDE], m: usize)
     let mut drives = no_drives();
     for q in 0..m {
         let row = row_at(sheet, q);
-        drives = with_drive(drives, row, durations[index(row.over)]);
+        drives = with_drive(drives, row, durations[row.over as usize]);
     }
     drives
 }

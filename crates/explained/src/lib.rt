@@ -9,7 +9,6 @@ ghost use Rattle.vee.specs.PlanTest.{Tested};
 ghost use Rattle.explained.specs.Explained.{nothing_more, Explained};
 
 use drives::{durations_of, no_drives};
-use lengths::no_length;
 use plan::{Plan, links_of, points_of};
 use reasons::{pair_in, round_in};
 use rows::{SHEET, lay_out};
@@ -34,19 +33,15 @@ fn plainly(answer: Answer) -> Explanation
     ensures { result ≡ nothing_more answer }
 {
     let drives = no_drives();
-    let none = no_length();
     let way = no_way();
     let why = Why {
-        drives: drives,
-        shortest: none,
-        allowed: none,
-        way: way,
-        sum: none,
+        drives,
+        shortest: None,
+        allowed: None,
+        way,
+        sum: None,
     };
-    Explanation {
-        answer: answer,
-        why: why,
-    }
+    Explanation { answer, why }
 }
 
 // A cycle in projection `i`.
@@ -62,7 +57,7 @@ fn of_cycle(plan: Plan, i: u32) -> Explanation
     let why = round_in(&sheet, &w, plan.count as usize, n);
     Explanation {
         answer: Answer::Cycle(i),
-        why: why,
+        why,
     }
 }
 
@@ -79,7 +74,7 @@ fn of_pair(plan: Plan, i: u32, x: u32, y: u32) -> Explanation
     let why = pair_in(&sheet, &w, plan.count as usize, n, x as usize, y as usize);
     Explanation {
         answer: Answer::Pair(i, x, y),
-        why: why,
+        why,
     }
 }
 
@@ -88,9 +83,8 @@ pub fn explain_of(plan: Plan) -> Explanation
     ensures { Explained plan result }
 {
     match test(plan) {
-        Answer::Refused(number, place) => plainly(Answer::Refused(number, place)),
-        Answer::Yes(many) => plainly(Answer::Yes(many)),
         Answer::Cycle(i) => of_cycle(plan, i),
         Answer::Pair(i, x, y) => of_pair(plan, i, x, y),
+        plain => plainly(plain),
     }
 }

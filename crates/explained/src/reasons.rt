@@ -5,7 +5,7 @@ ghost use Rattle.ways.specs.Steps.{ups, downs};
 ghost use Rattle.explained.specs.Reasons.{steps_of, SumAsks, PairIn, PairShown, RoundIn, RoundShown};
 
 use crate::drives::{Drives, drives_of};
-use lengths::{Length, allowed, length_of, no_length};
+use lengths::{Length, allowed, length_of};
 use rows::{SHEET, fill};
 use tables::{NONE, Part, ROOM, SIDE};
 use ways::{Way, round_of, way};
@@ -14,10 +14,10 @@ use ways::{Way, round_of, way};
 #[derive(Clone, Copy)]
 pub struct Why {
     pub drives: Drives,
-    pub shortest: Length,
-    pub allowed: Length,
+    pub shortest: Option<Length>,
+    pub allowed: Option<Length>,
     pub way: Way,
-    pub sum: Length,
+    pub sum: Option<Length>,
 }
 
 // The sum of a way's steps.
@@ -54,10 +54,10 @@ pub(crate) fn pair_in(
     let best = allowed(sheet, durations, m, n, x, y, &mut all, &mut ways);
     fill(&mut all, Part::All, sheet, durations, n, m);
     let found = way(&all, sheet, durations, m, n, x, y);
-    let length = sum_of(found);
+    let length = Some(sum_of(found));
     let drives = drives_of(sheet, durations, m);
     Why {
-        drives: drives,
+        drives,
         shortest: length,
         allowed: best,
         way: found,
@@ -73,13 +73,12 @@ pub(crate) fn round_in(sheet: &[u32; SHEET], durations: &[u64; SIDE], m: usize, 
     let mut all = [NONE; ROOM];
     let found = round_of(sheet, durations, m, n, &mut all);
     let length = sum_of(found);
-    let none = no_length();
     let drives = drives_of(sheet, durations, m);
     Why {
-        drives: drives,
-        shortest: none,
-        allowed: none,
+        drives,
+        shortest: None,
+        allowed: None,
         way: found,
-        sum: length,
+        sum: Some(length),
     }
 }

@@ -13,14 +13,13 @@ use Rattle.numbers.specs.Fits.{All}
 use Rattle.records.specs.Held.{Held}
 use Rattle.records.proofs.Entries.{all_take}
 use Rattle.records.specs.declared.Record.{Record}
-use Rattle.std.specs.Prelude.{if◌then◌else◌}
+use Rattle.std.specs.Prelude.{if◌then◌else◌, Some}
 use Rattle.plan.specs.Limits.{most_points, most_records}
 use Rattle.plan.specs.APlan.{points, watched, blank, records_of}
 use Rattle.lowhigh.specs.Rules.{number_at, place_from}
 use Rattle.plan.specs.Held.{HeldPlan}
 use Rattle.plan.specs.ReplyNumbers.{check_of}
 use Rattle.plan.specs.declared.Plan.{Plan}
-use Rattle.plan.specs.declared.Found.TheVariants.{At}
 use Rattle.plan.proofs.Accepted.{accepted_plan}
 use Rattle.links.specs.declared.Links.{Links}
 use Rattle.board.specs.Boards.{is_done, minute}
@@ -66,7 +65,7 @@ place_few i so [] = inl refl
 place_few i so (r ∷ rs) = go (so r) (place_few (suc i) so rs)
   where
     go : (t : Bool) → (number_at (place_from (suc i) so rs) ≡ 0) ⊎ (number_at (place_from (suc i) so rs) < suc i + length rs)
-        → (number_at (if t then At i else place_from (suc i) so rs) ≡ 0) ⊎ (number_at (if t then At i else place_from (suc i) so rs) < i + suc (length rs))
+        → (number_at (if t then Some i else place_from (suc i) so rs) ≡ 0) ⊎ (number_at (if t then Some i else place_from (suc i) so rs) < i + suc (length rs))
     go true h = inr (omega arith)
     go false (inl z) = inl z
     go false (inr l) = inr (omega arith)

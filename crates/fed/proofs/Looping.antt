@@ -6,6 +6,7 @@ use Prim.Native.Nat.{ℕ, zero, suc, ◌+◌, ◌-◌, ◌*◌, ◌<◌, ◌≤�
 use native.Mathlib.Omega.{arith}
 use lib.ListN.{length, take, drop}
 use lib.Seq.{take-add, take-take, take-length, length-take-le}
+use Rattle.plan.specs.ReplyNumbers.{plan_in}
 use Rattle.plan.specs.Limits.{most_records, record_bytes}
 use Rattle.board.proofs.Theorems.Each.{clash}
 use Rattle.lines.specs.Inside.{text_in}
@@ -111,8 +112,8 @@ alone text = record { place = omega arith; front = take-length text; rest = refl
 
 -- what the last lines are, in a room of their own
 last_alone : {n : ℕ} {front kept lines₀ : List ℕ} {left at : ℕ} {lines : List ℕ} {e : ℕ} (l : LastPut n front kept left lines₀ at lines e)
-    → LastPut n front kept left (tail_text left ++ text_in (end_line (read_front n front).plan l.board)) 0 (tail_text left ++ text_in (end_line (read_front n front).plan l.board)) (length (tail_text left ++ text_in (end_line (read_front n front).plan l.board)))
-last_alone {n} {front} {left = left} l = record { board = l.board; holds = l.holds; made = alone (tail_text left ++ text_in (end_line (read_front n front).plan l.board)) }
+    → LastPut n front kept left (tail_text left ++ text_in (end_line (plan_in (read_front n front)) l.board)) 0 (tail_text left ++ text_in (end_line (plan_in (read_front n front)) l.board)) (length (tail_text left ++ text_in (end_line (plan_in (read_front n front)) l.board)))
+last_alone {n} {front} {left = left} l = record { board = l.board; holds = l.holds; made = alone (tail_text left ++ text_in (end_line (plan_in (read_front n front)) l.board)) }
 
 finished : {full : Bool} {front₀ : List ℕ} {s : Stage} {front rows into out ends kept bytes text : List ℕ} (rest : List ℕ) {lines₀ lines : List ℕ} {end : ℕ} → record_bytes * (most_records + 2) ≤ length front₀ → length rest < record_bytes
     → Stands full front₀ s front rows into out ends kept bytes text → Finishes full s front rows into out ends kept rest lines₀ lines end → Prints full (bytes ++ rest) (text ++ take end lines)

@@ -10,8 +10,7 @@ use Rattle.records.proofs.Entries.{all_take}
 use Rattle.std.specs.Prelude.{if◌then◌else◌}
 use Rattle.plan.specs.Limits.{most_records, record_bytes}
 use Rattle.plan.specs.Held.{All, IsByte, HeldPlan}
-use Rattle.plan.specs.ReplyNumbers.{read_of}
-use Rattle.plan.specs.declared.Reading.{Reading}
+use Rattle.plan.specs.ReplyNumbers.{read_of, Reading, number_in, plan_in}
 use Rattle.plan.proofs.Holding.{read_held}
 use Rattle.board.specs.Boards.{fresh}
 use Rattle.vee.specs.TestOf.{test_of}
@@ -45,7 +44,7 @@ offers_refused : (front₀ front bytes rows₀ into₀ out₀ ends₀ kept₀ li
     → take b.end lines ≡ offers_text (bytes ++ more)
 offers_refused front₀ front bytes rows₀ into₀ out₀ ends₀ kept₀ lines₀ rows into out ends kept lines t n b more room part q g bad h =
     let two = part_reads front₀ t n bytes front part room h more q in
-    let worse : (read_front n front).number ≡ 0 → ⊥ = λ z. bad (g.number ∙ z) in
+    let worse : number_in (read_front n front) ≡ 0 → ⊥ = λ z. bad (g.number ∙ z) in
     written lines₀ _ lines b.end (g.refused bad) ∙ sym (refused_lines offers_of (read_front n front) (event_part (bytes ++ more)) worse)
     ∙ ap (λ (x : Reading). texts_of (read_lines offers_of x (event_part (bytes ++ more)))) two.0
 
@@ -58,7 +57,7 @@ offers_read : (front₀ front bytes rows₀ into₀ out₀ ends₀ kept₀ lines
 unfolding texts_of
 offers_read front₀ front bytes rows₀ into₀ out₀ ends₀ kept₀ lines₀ rows into out ends kept lines events kept' text lines₁ lines₂ t n k e b rest room part q g z run few last h f bs =
     let two = part_reads front₀ t n bytes front part room h (events ++ rest) q in
-    let p = (read_front n front).plan in
+    let p = plan_in (read_front n front) in
     let a = begun_agrees true n front rows₀ into₀ out₀ ends₀ kept₀ lines₀ rows into out ends kept lines b g z (plan_part (bytes ++ (events ++ rest))) two.0 in
     let back : read_of (plan_part (bytes ++ (events ++ rest))) ≡ read_front n front = sym two.0 in
     let held : HeldPlan p = rw back at (read_held (plan_part (bytes ++ (events ++ rest))) (part_bytes (bytes ++ (events ++ rest)) bs)) in
@@ -68,14 +67,14 @@ offers_read front₀ front bytes rows₀ into₀ out₀ ends₀ kept₀ lines₀
     written lines₀ _ lines b.end (g.read z).made ∙ w.2 ∙ ap (λ (x : List ℕ). text_in (test_line (test_of p)) ++ x) (board_lines_lem p b.links b.ponds rows into out ends fresh kept a held g.ponds w.0 w.1) in
     let v = whole_rest s.count events rest s.whole few in
     let end = end_text p b.links rows into out ends events kept' s.count rest s.whole few s.agrees n front lines₁ lines₂ e refl last in
-    let ok : (read_front n front).number ≡ 0 = sym g.number ∙ z in
+    let ok : number_in (read_front n front) ≡ 0 = sym g.number ∙ z in
     let behind : events ++ rest ≡ event_part (bytes ++ (events ++ rest)) = sym two.1 in
     let tail : text ++ take e lines₂ ≡ texts_of (answer_lines p 0 fresh (whole_in (events ++ rest)) ++ end_lines p (events ++ rest)) =
     (λ i. s.told i ++ end i) ∙ sym (texts_more (answer_lines p 0 fresh (whole_in events)) (end_lines p (events ++ rest))) ∙ ap (λ (x : List (List ℕ)). texts_of (answer_lines p 0 fresh x ++ end_lines p (events ++ rest))) (sym v) in
     let all : (text_in (test_line (test_of p)) ++ texts_of (board_lines p fresh)) ++ texts_of (answer_lines p 0 fresh (whole_in (events ++ rest)) ++ end_lines p (events ++ rest)) ≡ texts_of (offers_of p (events ++ rest)) =
     append_assoc (text_in (test_line (test_of p))) (texts_of (board_lines p fresh)) (texts_of (answer_lines p 0 fresh (whole_in (events ++ rest)) ++ end_lines p (events ++ rest)))
     ∙ ap (λ (x : List ℕ). text_in (test_line (test_of p)) ++ x) (sym (texts_more (board_lines p fresh) (answer_lines p 0 fresh (whole_in (events ++ rest)) ++ end_lines p (events ++ rest)))) in
-    (λ i. first i ++ tail i) ∙ all ∙ ap texts_of (sym (read_lines_lem offers_of (read_front n front) (events ++ rest) ok)) ∙ (λ i. texts_of (read_lines offers_of (two.0 i) (behind i)))
+    (λ i. first i ++ tail i) ∙ all ∙ ap texts_of (sym (read_lines_lem offers_of (read_front n front) (plan_part (bytes ++ (events ++ rest))) (events ++ rest) two.0 ok)) ∙ (λ i. texts_of (read_lines offers_of (two.0 i) (behind i)))
 
 -- WHAT IS PRINTED IS THE DEFINITION'S TEXT
 pub offers_prints : OffersPrints

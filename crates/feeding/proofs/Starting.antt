@@ -1,8 +1,11 @@
 -- The plan that is read, and the end, from what the calls answer. Assumes nothing.
 use Rattle.std.proofs.Common.{◌≡◌, ℕ, ◌+◌, ◌≤◌, Bool, true, false, List, [], ◌∷◌, ◌++◌, sym, refl, ap, ◌∙◌, arith, eq-eqb, ne_eqb}
-use Rattle.plan.specs.Limits.{most_points}
+use Rattle.plan.specs.ReplyNumbers.{Reading, number_in, place_in, plan_in}
+use Rattle.std.specs.Prelude.{Err}
+use Rattle.plan.specs.Limits.{most_points, most_ordinary}
 use Rattle.plan.specs.declared.Plan.{Plan}
-use Rattle.plan.specs.declared.Reading.{Reading}
+use Rattle.plan.specs.declared.Refusal.{Refusal}
+use Rattle.plan.proofs.Limited.{refused_number}
 use Rattle.links.specs.declared.Links.{Links}
 use Rattle.board.specs.declared.Board.{Board}
 use Rattle.board.proofs.Theorems.Each.{clash}
@@ -38,31 +41,19 @@ module _ (p : Plan) (l : Links) (ponds rows out kept lines₀ : List ℕ) where
       record { text = text_in line ++ b.text; first = (b.text, b.board, ap (λ (x : Line). text_in x ++ b.text) (e ∙ ap test_line (test_is t))); made = made_more m b.made }
 
 module _ (full : Bool) (n : ℕ) (front rows₀ into₀ out₀ ends₀ kept₀ lines₀ rows into out ends kept lines : List ℕ) (r : Reading) (e : r ≡ read_front n front) (s : Started)
-    (b : BeginsWith r.plan s rows₀ into₀ out₀ ends₀ kept₀ rows into out ends kept) (ponds : List ℕ) (q : ForEach (pond_at r.plan) 0 most_points ponds) {end : ℕ} where
-  pub begun_refused : (r.number ≡ 0 → ⊥) → (line : Line) → line ≡ plan_line r.number r.place → Made lines₀ 0 (text_in line) lines end
-      → PlanBegun full n front rows₀ into₀ out₀ ends₀ kept₀ lines₀ rows into out ends kept lines (record { number = r.number; links = s.links; ponds = ponds; end = end })
-  begun_refused bad line f m =
+    (b : BeginsWith (plan_in r) s rows₀ into₀ out₀ ends₀ kept₀ rows into out ends kept) (ponds : List ℕ) (q : ForEach (pond_at (plan_in r)) 0 most_points ponds) {end : ℕ} where
+  pub begun_refused : (x : Refusal) → r ≡ Err x → (line : Line) → line ≡ plan_line x.number x.place → Made lines₀ 0 (text_in line) lines end
+      → PlanBegun full n front rows₀ into₀ out₀ ends₀ kept₀ lines₀ rows into out ends kept lines (record { number = x.number; links = s.links; ponds = ponds; end = end })
+  begun_refused x k line f m =
+      let h : Err x ≡ read_front n front = sym k ∙ e in
       record {
         started = s;
         begins = rw e at b;
-        number = ap (λ (x : Reading). x.number) e;
+        number = ap number_in h;
         links = refl;
         ponds = rw e at q;
-        refused = λ z. (rw (f, e) at m);
-        read = λ z. absurd (bad z);
-      }
-
-  pub begun_read : r.number ≡ 0 → FirstPut full r.plan s.links ponds rows out kept lines₀ lines end
-      → PlanBegun full n front rows₀ into₀ out₀ ends₀ kept₀ lines₀ rows into out ends kept lines (record { number = 0; links = s.links; ponds = ponds; end = end })
-  begun_read good m =
-      record {
-        started = s;
-        begins = rw e at b;
-        number = sym good ∙ ap (λ (x : Reading). x.number) e;
-        links = refl;
-        ponds = rw e at q;
-        refused = λ z. absurd (z refl);
-        read = λ z. (rw e at m);
+        refused = λ z. (rw (f ∙ ap (λ (y : Reading). plan_line (number_in y) (place_in y)) h) at m);
+        read = λ z. absurd (refused_number most_ordinary _ x h z);
       }
 
 -- ---- the end
@@ -78,6 +69,6 @@ pub end_by_lem : (p : Plan) (kept : List ℕ) (left : ℕ) (lines₀ : List ℕ)
 end_by_lem p kept left lines₀ at b line t h f m = record { board = b; holds = h; made = made_more t.made (rw f at m) }
 
 -- the plan was read from the front room
-pub last_of : (n : ℕ) (front : List ℕ) (r : Reading) → r ≡ read_front n front → {kept : List ℕ} {left : ℕ} {lines₀ : List ℕ} {at : ℕ} {lines : List ℕ} {end : ℕ} → EndPut r.plan kept left lines₀ at lines end
+pub last_of : (n : ℕ) (front : List ℕ) (r : Reading) → r ≡ read_front n front → {kept : List ℕ} {left : ℕ} {lines₀ : List ℕ} {at : ℕ} {lines : List ℕ} {end : ℕ} → EndPut (plan_in r) kept left lines₀ at lines end
     → LastPut n front kept left lines₀ at lines end
 last_of n front r e x = record { board = x.board; holds = x.holds; made = rw e at x.made }

@@ -1,8 +1,8 @@
 -- What the parts of the printing programs leave in the rooms that are lent, whatever these hold. Assumes nothing.
 use Rattle.std.specs.Prelude.{◌≡◌, ℕ, ◌+◌, ◌*◌, ◌/◌, ◌%◌, ◌^◌, ◌≤◌, Bool, true, false, List, [], ◌∷◌, ◌++◌, length, take, drop, ◌==◌, ◌≢◌, if◌then◌else◌}
+use Rattle.plan.specs.ReplyNumbers.{Reading, number_in, place_in, plan_in}
 use Rattle.plan.specs.Limits.{most_points, record_bytes}
 use Rattle.plan.specs.declared.Plan.{Plan}
-use Rattle.plan.specs.declared.Reading.{Reading}
 use Rattle.links.specs.declared.Links.{Links}
 use Rattle.board.specs.Streams.{events_in}
 use Rattle.board.specs.declared.Board.{Board}
@@ -56,12 +56,12 @@ pub record FirstPut (full : Bool) (p : Plan) (l : Links) (ponds rows out kept li
 -- n bytes of a plan part have come, the first of which stand in the front room
 pub record PlanBegun (full : Bool) (n : ℕ) (front rows₀ into₀ out₀ ends₀ kept₀ lines₀ rows into out ends kept lines : List ℕ) (r : Begun) : Type 0 where
   pub started : Started
-  pub begins : BeginsWith (read_front n front).plan started rows₀ into₀ out₀ ends₀ kept₀ rows into out ends kept
-  pub number : r.number ≡ (read_front n front).number
+  pub begins : BeginsWith (plan_in (read_front n front)) started rows₀ into₀ out₀ ends₀ kept₀ rows into out ends kept
+  pub number : r.number ≡ number_in (read_front n front)
   pub links : r.links ≡ started.links
-  pub ponds : ForEach (pond_at (read_front n front).plan) 0 most_points r.ponds
-  pub refused : (r.number ≢ 0) → Made lines₀ 0 (text_in (plan_line (read_front n front).number (read_front n front).place)) lines r.end
-  pub read : r.number ≡ 0 → FirstPut full (read_front n front).plan r.links r.ponds rows out kept lines₀ lines r.end
+  pub ponds : ForEach (pond_at (plan_in (read_front n front))) 0 most_points r.ponds
+  pub refused : (r.number ≢ 0) → Made lines₀ 0 (text_in (plan_line (number_in (read_front n front)) (place_in (read_front n front)))) lines r.end
+  pub read : r.number ≡ 0 → FirstPut full (plan_in (read_front n front)) r.links r.ponds rows out kept lines₀ lines r.end
 
 -- the same of what a plan part was read to: whatever bytes read to it
 pub record ReadBegun (full : Bool) (reading : Reading) (rows₀ into₀ out₀ ends₀ kept₀ lines₀ rows into out ends kept lines : List ℕ) (r : Begun) : Type 0 where
@@ -87,4 +87,4 @@ pub record EndPut (p : Plan) (kept : List ℕ) (left : ℕ) (lines₀ : List ℕ
 pub record LastPut (n : ℕ) (front kept : List ℕ) (left : ℕ) (lines₀ : List ℕ) (at : ℕ) (lines : List ℕ) (end : ℕ) : Type 0 where
   pub board : Board
   pub holds : BoardIn kept board
-  pub made : Made lines₀ at (tail_text left ++ text_in (end_line (read_front n front).plan board)) lines end
+  pub made : Made lines₀ at (tail_text left ++ text_in (end_line (plan_in (read_front n front)) board)) lines end

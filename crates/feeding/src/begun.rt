@@ -9,11 +9,12 @@ ghost use Rattle.feeding.specs.Parts.{FirstPut, ReadBegun, TailPut, EndPut};
 use engine::{KEPT, LIST};
 use links::Links;
 use places::{ROOM, ponds_of};
-use plan::{ACCEPTED, Plan, Reading};
+use plan::{ACCEPTED, Plan, Refusal, plan_in};
 use rows::SHEET;
 use saying::{put_board, put_line};
 
 // The plan's own refusal, or number 0; the links and the pond of each point; and where the lines end.
+// Links, pond codes and lines are handed on, refused or not: so no Result.
 #[derive(Clone, Copy)]
 pub struct Begun {
     pub number: u32,
@@ -47,7 +48,7 @@ fn put_first(
 // The plan part has ended, and reads to this.
 pub fn begin_read(
     full: bool,
-    reading: Reading,
+    reading: Result<Plan, Refusal>,
     rows: &mut [u32; SHEET],
     into: &mut [u16; LIST],
     out: &mut [u16; LIST],
@@ -59,24 +60,24 @@ pub fn begin_read(
     ensures begun { ReadBegun full reading rows.old into.old out.old ends.old kept.old lines.old rows.new into.new out.new ends.new kept.new lines.new result }
     ensures few { result.end ≤ room * (most_points + 2) }
 {
-    let plan = reading.plan;
+    let plan = plan_in(reading);
     let started = engine::begin(
         plan, &mut *rows, &mut *into, &mut *out, &mut *ends, &mut *kept,
     );
     let links = started.links;
     let ponds = ponds_of(plan);
-    if reading.number != ACCEPTED {
+    if let Err(refusal) = reading {
         return Begun {
-            number: reading.number,
-            links: links,
-            ponds: ponds,
-            end: put_line(lines, 0, text::plan_line(reading.number, reading.place)),
+            number: refusal.number,
+            links,
+            ponds,
+            end: put_line(lines, 0, text::plan_line(refusal.number, refusal.place)),
         };
     }
     Begun {
         number: ACCEPTED,
-        links: links,
-        ponds: ponds,
+        links,
+        ponds,
         end: put_first(full, plan, links, ponds, &*rows, &*out, &*kept, lines),
     }
 }

@@ -1,5 +1,5 @@
 // What is otherwise where the input ends with the piece.
-ghost use Rattle.std.specs.Prelude.{◌≡◌, ◌+◌, ◌*◌, ◌≤◌, length};
+ghost use Rattle.std.specs.Prelude.{◌≡◌, true, ◌+◌, ◌*◌, ◌≤◌, length};
 ghost use Rattle.lines.specs.Text.{room};
 ghost use Rattle.feeding.specs.Ending.{PartKept, OverPut};
 
@@ -32,7 +32,7 @@ pub fn put_last(
     lines: &mut [u8],
     at: usize,
 ) -> usize
-    requires { at + room * 2 ≤ length lines.old }
+    requires { over ≡ true → at + room * 2 ≤ length lines.old }
     ensures { OverPut over number plan kept.now left lines.old at lines.new result }
 {
     if !over {

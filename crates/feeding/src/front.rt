@@ -5,10 +5,10 @@ ghost use Rattle.stream.specs.Buffers.{appended};
 ghost use Rattle.feeding.specs.Parts.{PlanKept};
 
 use plan::RECORD_BYTES;
-use std::num::wrapping_add_u64;
 use stream::{append, is_mark};
 
 // The bytes of the plan part so far, how many bytes of the piece were used, and whether the mark was among them.
+// Length and bytes used are answered with the mark and without: so no Option.
 #[derive(Clone, Copy)]
 pub struct Part {
     pub length: u64,
@@ -22,8 +22,7 @@ pub fn keep_plan(front: &mut [u8], length: u64, input: &[u8]) -> Part
 {
     let n = input.len() / RECORD_BYTES;
     let mut now = length;
-    let mut i: usize = 0;
-    while i < n {
+    for i in 0..n {
         let bytes = &input[RECORD_BYTES * i..RECORD_BYTES * i + RECORD_BYTES];
         if is_mark(bytes) {
             return Part {
@@ -33,12 +32,11 @@ pub fn keep_plan(front: &mut [u8], length: u64, input: &[u8]) -> Part
             };
         }
         append(front, now as usize, bytes);
-        now = wrapping_add_u64(now, RECORD_BYTES as u64);
-        i += 1;
+        now = now.wrapping_add(RECORD_BYTES as u64);
     }
     Part {
         length: now,
-        used: RECORD_BYTES * i,
+        used: RECORD_BYTES * n,
         marked: false,
     }
 }
@@ -49,5 +47,5 @@ pub fn keep_rest(front: &mut [u8], at: u64, rest: &[u8]) -> u64
     ensures bytes { front.new ≡ appended front.old at rest.now }
 {
     append(front, at as usize, rest);
-    wrapping_add_u64(at, rest.len() as u64)
+    at.wrapping_add(rest.len() as u64)
 }

@@ -11,13 +11,13 @@ ghost use Rattle.fields.specs.Inside.{beginning, is_at_begin, end_step, behind_c
 
 use values::Seen;
 
-const QUOTE: u8 = 34;
+const QUOTE: u8 = b'"';
 
-const COMMA: u8 = 44;
+const COMMA: u8 = b',';
 
-const CR: u8 = 13;
+const CR: u8 = b'\r';
 
-const LF: u8 = 10;
+const LF: u8 = b'\n';
 
 // Where in a field a byte stands: at its beginning, in one without quotes, in one with quotes, and behind a quote that may have
 // closed it.
@@ -116,10 +116,8 @@ fn end_at(place: Place) -> Step
     ensures { result ≡ end_step place }
 {
     match place {
-        Place::Begin => Step::Ends,
-        Place::Bare => Step::Ends,
         Place::Quoted => Step::Broken,
-        Place::Closed => Step::Ends,
+        Place::Begin | Place::Bare | Place::Closed => Step::Ends,
     }
 }
 
@@ -137,9 +135,9 @@ fn at(place: Place, seen: Seen, turned: bool) -> Step
     ensures { result ≡ kept place seen turned }
 {
     Step::On(Spot {
-        place: place,
-        seen: seen,
-        turned: turned,
+        place,
+        seen,
+        turned,
     })
 }
 
@@ -148,10 +146,9 @@ impl Spot {
     pub fn begin() -> Self
         ensures { result ≡ beginning }
     {
-        let none = Seen::none();
         Spot {
             place: Place::Begin,
-            seen: none,
+            seen: Seen::none(),
             turned: false,
         }
     }
@@ -160,16 +157,11 @@ impl Spot {
     pub fn is_at_begin(self) -> bool
         ensures { result ≡ is_at_begin self }
     {
-        let place = self.place;
-        match place {
-            Place::Begin => !self.turned,
-            Place::Bare => false,
-            Place::Quoted => false,
-            Place::Closed => false,
-        }
+        matches!(self.place, Place::Begin) & !self.turned
     }
 
     // One byte further.
+    #[tactic(auto, unfolding(crate::specs::Inside::step_of))]
     pub fn step(self, c: u8) -> Step
         ensures { result ≡ step_of self c }
     {
@@ -193,13 +185,7 @@ impl Spot {
     pub fn may_end(self) -> bool
         ensures { result ≡ may_end self }
     {
-        let place = self.place;
-        match place {
-            Place::Begin => !self.turned,
-            Place::Bare => !self.turned,
-            Place::Quoted => false,
-            Place::Closed => !self.turned,
-        }
+        !matches!(self.place, Place::Quoted) & !self.turned
     }
 }
 
@@ -215,25 +201,21 @@ pub struct Walk {
 pub fn walk_from(piece: &[u8], at: usize, spot: Spot) -> Walk
     ensures { result ≡ walk_from spot at (drop at piece.now) }
 {
-    let n = piece.len();
     let mut here = spot;
-    let mut i = at;
-    while i < n {
-        let c = piece[i];
-        let step = here.step(c);
+    for i in at..piece.len() {
+        let step = here.step(piece[i]);
         let Step::On(next) = step else {
             return Walk {
                 spot: here,
-                step: step,
+                step,
                 next: i + 1,
             };
         };
         here = next;
-        i += 1;
     }
     Walk {
         spot: here,
         step: Step::On(here),
-        next: i,
+        next: at.max(piece.len()),
     }
 }

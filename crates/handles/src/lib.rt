@@ -24,6 +24,7 @@ pub fn read_full(input: Stdin, room: &mut [u8]) -> usize
     ensures { IsPrefixLen result room.new }
 {
     let mut done: usize = 0;
+    // It goes on by what a read gave: no index is counted.
     while done < room.len() {
         let n = read_some(input, &mut room[done..]);
         if n == 0 {

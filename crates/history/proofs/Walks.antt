@@ -1,5 +1,4 @@
--- What one turn does for a test of every point, of every record and of every member of a set, and for the largest minute
--- of some points. Assumes nothing.
+-- What one turn does for a test of every point and of every record, and for the largest minute of some points. Assumes nothing.
 use mathlib.Core.Path.{◌≡◌, refl}
 use mathlib.Core.Bool.{Bool, true, false, not, ◌&&◌, ◌||◌}
 use mathlib.Core.List.{List, [], ◌∷◌}
@@ -8,17 +7,13 @@ use native.Mathlib.Omega.{arith}
 use native.Mathlib.Numerals.{add-one}
 use lib.ListN.{length, drop, get_or, drop_of_length-le}
 use lib.Seq.{drop-cons}
-use Rattle.points.specs.Sets.{members_of, from, every}
-use Rattle.points.proofs.Laws.{Turn, members_empty}
+use Rattle.points.specs.Sets.{from, every}
 use Rattle.plan.specs.Limits.{most_records}
-use Rattle.plan.specs.APlan.{link, is, some, blank, records_of}
+use Rattle.plan.specs.APlan.{some, blank, records_of}
 use Rattle.plan.proofs.Records.{next_record, last_record}
 use Rattle.records.specs.declared.Record.{Record}
 use Rattle.plan.specs.declared.Plan.{Plan}
 use Rattle.history.specs.History.{minute_in, each, largest}
-use Rattle.history.specs.Inside.{asked}
-use Rattle.history.specs.declared.each.Ask.{Ask}
-use Rattle.history.specs.declared.each.Ask.TheVariants.{InBounds, Earlier}
 
 -- the points from i up to n
 module _ (test : ℕ → Bool) (n i : ℕ) where
@@ -68,11 +63,6 @@ module _ (so : Record → Bool) (p : Plan) (n : ℕ) where
     unfolding each
     left_end h = rw (drop_of_length-le (records_of p) (last_record p w.room n w.all i h)) at w.same
 
--- what is asked of every record is so of one that is no link
-pub so_of_others : (clock done : ℕ) (minutes : List ℕ) (ask : Ask) (r : Record) → is link r ≡ false → asked clock done minutes ask r ≡ true
-so_of_others clock done minutes InBounds r e = rw e
-so_of_others clock done minutes Earlier r e = rw e
-
 -- none of the records is so
 pub none_so : (so : Record → Bool) (rs : List Record) → each (λ (r : Record). not (so r)) rs ≡ not (some so rs)
 unfolding each some
@@ -83,26 +73,14 @@ none_so so (r ∷ rs) = rw (none_so so rs) (go (so r))
     go true = refl
     go false = refl
 
--- the members of a set
-module _ (test : ℕ → Bool) (s p rest : ℕ) (t : Turn s p rest) where
-  pub members_fails : test p ≡ false → false ≡ every test (members_of s)
-  unfolding every
-  members_fails e = rw (t.members, e)
-
-  pub members_turn : test p ≡ true → every test (members_of s) ≡ every test (members_of rest)
-  unfolding every
-  members_turn e = rw (t.members, e)
-
-pub members_end : (test : ℕ → Bool) → true ≡ every test (members_of 0)
-unfolding every
-members_end test = rw members_empty
-
 -- the largest minute
-module _ (minutes : List ℕ) where
-  pub largest_turn : (s p rest : ℕ) → Turn s p rest → (n : ℕ) → max n (largest minutes (members_of s)) ≡ max (max n (minute_in minutes p)) (largest minutes (members_of rest))
+module _ (minutes : List ℕ) (n : ℕ) {left : List ℕ} where
+  -- with the next of the points that are left
+  pub largest_more : {p : ℕ} {rest : List ℕ} → left ≡ p ∷ rest → max n (largest minutes left) ≡ max (max n (minute_in minutes p)) (largest minutes rest)
   unfolding largest
-  largest_turn s p rest t n = rw t.members (omega arith)
+  largest_more e = rw e (omega arith)
 
-  pub largest_end : (n : ℕ) → n ≡ max n (largest minutes (members_of 0))
+  -- none is left
+  pub largest_none : left ≡ [] → n ≡ max n (largest minutes left)
   unfolding largest
-  largest_end n = rw members_empty (omega arith)
+  largest_none e = rw e (omega arith)

@@ -1,6 +1,6 @@
 -- Document 01, "Board, windows, replies" and number 27 of "Events", on plain values: a clock, a set of done points and a
 -- minute for each point. `board` says the same words of a board. Assumes nothing.
-use Rattle.std.specs.Prelude.{Bool, true, false, not, ◌&&◌, ◌||◌, List, [], ◌∷◌, ℕ, ◌+◌, max, eqb, ltb, leb, get_or}
+use Rattle.std.specs.Prelude.{Bool, true, not, ◌&&◌, ◌||◌, List, [], ◌∷◌, ℕ, ◌+◌, max, eqb, ltb, leb, get_or}
 use Rattle.points.specs.Sets.{member}
 use Rattle.plan.specs.APlan.{link, is, gap_of}
 use Rattle.records.specs.declared.Record.{Record}

@@ -1,3 +1,2 @@
 -- What a reader has to believe of what has happened, on plain values. No proofs are here.
 pub mod History
-pub mod Inside

@@ -4,29 +4,21 @@
 
 #![tactic(auto)]
 
-ghost use Rattle.std.specs.Prelude.{◌≡◌, min};
+ghost use Rattle.std.specs.Prelude.{◌≡◌};
 ghost use Rattle.points.specs.Sets.{below_of};
-ghost use Rattle.plan.specs.Limits.{most_records};
 ghost use Rattle.plan.specs.APlan.{points, records_of};
 ghost use Rattle.history.specs.History.{minute_in};
 
 mod each;
 mod sound;
 
-pub use each::{Ask, every_record};
-use plan::{MOST_RECORDS, Plan, points_of};
+pub use each::{all_earlier, all_in_bounds};
+use plan::{Plan, points_of};
 use points::{MOST, below};
 pub use sound::{all_fit, last_done};
 
 // A place for each point.
 pub const ROOM: usize = plan::MOST_POINTS as usize;
-
-// A number of 32 bits, where sums are of 64.
-pub fn wide(x: u32) -> u64
-    ensures { result ≡ x }
-{
-    x as u64
-}
 
 // The minute of a point; a point past the last place has 0.
 pub fn minute_at(minutes: [u32; ROOM], p: u8) -> u32
@@ -40,23 +32,11 @@ pub fn minute_at(minutes: [u32; ROOM], p: u8) -> u32
     }
 }
 
-// How many records of a plan there are, as far as it has room.
-pub fn used(count: u32) -> usize
-    ensures { result ≡ min count most_records }
-{
-    let n = count as usize;
-    if n < MOST_RECORDS { n } else { MOST_RECORDS }
-}
-
 // The set of the first n points, of which there are 32 at most.
 pub fn first_points(n: u32) -> u32
     ensures { result ≡ below_of n }
 {
-    if n < MOST as u32 {
-        below(n as u8)
-    } else {
-        below(MOST)
-    }
+    below(n.min(u32::from(MOST)) as u8)
 }
 
 // The set of a plan's points.

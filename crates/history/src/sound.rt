@@ -6,7 +6,7 @@ ghost use Rattle.plan.specs.Limits.{most_points};
 ghost use Rattle.history.specs.History.{fits, largest};
 
 use crate::{ROOM, minute_at};
-use points::{MOST, first, has, without};
+use points::{MOST, has, members};
 
 // A point not done holds 0, and no minute is past the clock.
 fn fits_at(clock: u32, done: u32, minutes: [u32; ROOM], p: u8) -> bool
@@ -19,12 +19,10 @@ fn fits_at(clock: u32, done: u32, minutes: [u32; ROOM], p: u8) -> bool
 pub fn all_fit(clock: u32, done: u32, minutes: [u32; ROOM]) -> bool
     ensures { result ≡ every (fits clock done minutes) (from 0 most_points) }
 {
-    let mut p: u8 = 0;
-    while p < MOST {
+    for p in 0..MOST {
         if !fits_at(clock, done, minutes, p) {
             return false;
         }
-        p += 1;
     }
     true
 }
@@ -34,14 +32,8 @@ pub fn last_done(done: u32, minutes: [u32; ROOM]) -> u32
     ensures { result ≡ largest minutes (members_of done) }
 {
     let mut last: u32 = 0;
-    let mut rest = done;
-    while rest != 0 {
-        let p = first(rest);
-        let m = minute_at(minutes, p);
-        if last < m {
-            last = m;
-        }
-        rest = without(rest, p);
+    for p in members(done) {
+        last = last.max(minute_at(minutes, p));
     }
     last
 }

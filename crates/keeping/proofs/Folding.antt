@@ -10,12 +10,11 @@ use borrow.Author.Tests.{eq-eqb, ne_eqb}
 use lib.Dec.{eqb}
 use lib.ListN.{length, get_or, set, length-set}
 use lib.Seq.{get_or-set_same, get_or-set_other}
-use Rattle.std.specs.Prelude.{if◌then◌else◌}
+use Rattle.std.specs.Prelude.{if◌then◌else◌, Some}
 use Rattle.plan.specs.Limits.{most_points}
 use Rattle.plan.specs.APlan.{one, how_many, blank}
 use Rattle.records.specs.declared.Record.{Record}
 use Rattle.history.proofs.Tests.{clash}
-use Rattle.plan.specs.declared.Found.TheVariants.{At}
 use Rattle.lowhigh.specs.Rules.{greatest, least, never, place_from, number_at}
 use Rattle.rows.specs.Sheet.{row_at}
 use Rattle.neighbours.specs.Lists.{places_of, over, top_at, first_at}
@@ -272,7 +271,7 @@ module _ (key val : ℕ → ℕ) (z : ℕ) where
       here = let d : i + 0 ≡ i = omega arith in rw d at (e 0 (omega arith))
 
       go : (b a s : Bool) → (b && a) ≡ s → first_at at (places_of key z (suc i) (length rs)) ≡ number_at (place_from (suc i) so rs)
-          → eqb (key i) z ≡ b → at i ≡ a → first_at at (if b then i ∷ places_of key z (suc i) (length rs) else places_of key z (suc i) (length rs)) ≡ number_at (if s then At i else place_from (suc i) so rs)
+          → eqb (key i) z ≡ b → at i ≡ a → first_at at (if b then i ∷ places_of key z (suc i) (length rs) else places_of key z (suc i) (length rs)) ≡ number_at (if s then Some i else place_from (suc i) so rs)
       go true true true h it p u = rw u
       go true true false h it p u = clash h
       go true false true h it p u = clash (sym h)

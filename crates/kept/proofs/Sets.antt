@@ -1,21 +1,20 @@
 -- The walk over an event's set. Assumes nothing.
 use mathlib.Core.Path.{◌≡◌}
-use mathlib.Core.List.{List}
+use mathlib.Core.List.{List, [], ◌∷◌}
 use Prim.Native.Nat.{ℕ, ◌<◌, ◌≤◌}
 use borrow.Author.Tests.{lt-ltb, le-ltb}
-use Rattle.points.specs.Sets.{members_of}
-use Rattle.points.proofs.Laws.{Turn, members_empty}
 use Rattle.plan.specs.Limits.{most_points}
 use Rattle.kept.specs.Rooms.{done_by, all_done_by, points_of}
 
-pub set_turn : (rows into out ends : List ℕ) (t n s p rest : ℕ) → Turn s p rest → (kept : List ℕ)
-    → all_done_by rows into out ends t n (members_of rest) (done_by rows into out ends t n p kept) ≡ all_done_by rows into out ends t n (members_of s) kept
-unfolding all_done_by
-set_turn rows into out ends t n s p rest u kept = rw u.members
+-- what is left gives the whole answer
+module _ (rows into out ends : List ℕ) (t n : ℕ) {left : List ℕ} (kept : List ℕ) {whole : List ℕ} (so_far : all_done_by rows into out ends t n left kept ≡ whole) where
+  pub set_turn : (p : ℕ) (rest : List ℕ) → left ≡ p ∷ rest → all_done_by rows into out ends t n rest (done_by rows into out ends t n p kept) ≡ whole
+  unfolding all_done_by
+  set_turn p rest e = rw e at so_far
 
-pub set_end : (rows into out ends : List ℕ) (t n : ℕ) (kept : List ℕ) → kept ≡ all_done_by rows into out ends t n (members_of 0) kept
-unfolding all_done_by
-set_end rows into out ends t n kept = rw members_empty
+  pub set_end : left ≡ [] → kept ≡ whole
+  unfolding all_done_by
+  set_end e = rw e at so_far
 
 -- ---- the foreman's point
 

@@ -7,22 +7,16 @@ ghost use Rattle.kept.specs.Rooms.{freed_at, bounded_at, running_at, remade_at, 
 
 use events::Event;
 use kept_rows::{CALLS, CLOCK, DONE, KEPT, LAST, MINUTES, RUNS, bound, free, place, run_now, sum};
-use lowhigh::larger;
-use neighbours::{LIST, onward, start};
-use plan::MOST_RECORDS;
-use points::{MOST, first, with, without};
+use neighbours::{LIST, entries};
+use points::{MOST, members, with};
 use rows::{SHEET, row_at};
 
 // Every record that z sets free.
 fn free_all(rows: &[u32; SHEET], into: &[u16; LIST], kept: &mut [u32; KEPT], z: usize, t: u32)
     ensures { kept.new ≡ over (freed_at rows.now t) kept.old (entries_of into.now z) }
 {
-    let mut i = start(into, z);
-    let mut left = MOST_RECORDS;
-    while i < MOST_RECORDS {
+    for i in entries(into, z) {
         free(row_at(rows, i), &mut *kept, t);
-        left -= 1;
-        i = onward(into, i, left);
     }
 }
 
@@ -30,12 +24,8 @@ fn free_all(rows: &[u32; SHEET], into: &[u16; LIST], kept: &mut [u32; KEPT], z: 
 fn bound_all(rows: &[u32; SHEET], out: &[u16; LIST], kept: &mut [u32; KEPT], z: usize, t: u32)
     ensures { kept.new ≡ over (bounded_at rows.now t) kept.old (entries_of out.now z) }
 {
-    let mut i = start(out, z);
-    let mut left = MOST_RECORDS;
-    while i < MOST_RECORDS {
+    for i in entries(out, z) {
         bound(row_at(rows, i), &mut *kept, t);
-        left -= 1;
-        i = onward(out, i, left);
     }
 }
 
@@ -66,12 +56,8 @@ fn running_of(rows: &[u32; SHEET], out: &[u16; LIST], kept: &[u32; KEPT], v: usi
     ensures { result ≡ top_at (running_at rows.now kept.now) (entries_of out.now v) }
 {
     let mut top: u32 = 0;
-    let mut i = start(out, v);
-    let mut left = MOST_RECORDS;
-    while i < MOST_RECORDS {
-        top = larger(top, run_now(row_at(rows, i), kept));
-        left -= 1;
-        i = onward(out, i, left);
+    for i in entries(out, v) {
+        top = top.max(run_now(row_at(rows, i), kept));
     }
     top
 }
@@ -97,12 +83,8 @@ fn remake_all(
 )
     ensures { kept.new ≡ over (remade_at rows.now out.now) kept.old (entries_of ends.now z) }
 {
-    let mut i = start(ends, z);
-    let mut left = MOST_RECORDS;
-    while i < MOST_RECORDS {
+    for i in entries(ends, z) {
         remake(rows, out, &mut *kept, i);
-        left -= 1;
-        i = onward(ends, i, left);
     }
 }
 
@@ -137,11 +119,8 @@ fn do_set(
 )
     ensures { kept.new ≡ all_done_by rows.now into.now out.now ends.now t n (members_of set) kept.old }
 {
-    let mut rest = set;
-    while rest != 0 {
-        let p = first(rest);
+    for p in members(set) {
         do_point(rows, into, out, ends, &mut *kept, p, t, n);
-        rest = without(rest, p);
     }
 }
 

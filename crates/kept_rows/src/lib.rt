@@ -11,8 +11,7 @@ ghost use Rattle.plan.specs.APlan.{one};
 ghost use Rattle.lowhigh.specs.Rules.{never};
 ghost use Rattle.kept_rows.specs.Rows.{reach_of, holding, low_by, run_by, high_by, freed, bounded, running};
 
-use history::wide;
-use lowhigh::{FARTHEST, NEVER, either, larger, lesser, past};
+use lowhigh::{FARTHEST, NEVER};
 use plan::{ORDINARY, WAIT};
 use points::has;
 use records::one_if;
@@ -59,32 +58,19 @@ pub fn place(x: u64) -> u8
     (x % PLACES) as u8
 }
 
-// The number, or the largest one where that is less.
-fn capped(x: u64) -> u32
-    ensures { result ≡ min x never }
-{
-    if x < WORD { x as u32 } else { NEVER }
-}
-
-// The difference, and 0 where there is none.
-fn beyond(x: u64, y: u64) -> u64
-    ensures { result ≡ x - y }
-{
-    if x < y { 0 } else { x - y }
-}
-
 // The sum, and the largest number where there is none.
 pub fn sum(x: u32, y: u32) -> u32
     ensures { result ≡ min (x + y) never }
 {
-    capped(wide(x) + wide(y))
+    x.saturating_add(y)
 }
 
 // From the minute t, so much up and so much down.
 fn reach(t: u32, base: u32, up: u64, down: u64) -> u32
     ensures { result ≡ reach_of t base up down }
 {
-    capped(beyond(wide(t) + wide(base) + up % WORD, down % WORD))
+    let minute = (u64::from(t) + u64::from(base) + up % WORD).saturating_sub(down % WORD);
+    minute.min(u64::from(NEVER)) as u32
 }
 
 // A row holds its first point shut until another is done: an ordinary one with negative d, or a wait.
@@ -105,29 +91,33 @@ pub fn hold(row: Row) -> u32
 fn low_by(row: Row, t: u32) -> u32
     ensures { result ≡ low_by row t }
 {
-    either(
-        row.kind == ORDINARY_ROW,
-        reach(t, 0, row.second, row.first),
-        0,
-    )
+    if row.kind == ORDINARY_ROW {
+        reach(t, 0, row.second, row.first)
+    } else {
+        0
+    }
 }
 
 // The minute before which a wait keeps its point, where its link started at t and runs.
 fn run_by(row: Row, t: u32) -> u32
     ensures { result ≡ run_by row t }
 {
-    either(row.kind == WAIT_ROW, reach(t, 0, row.first, 0), 0)
+    if row.kind == WAIT_ROW {
+        reach(t, 0, row.first, 0)
+    } else {
+        0
+    }
 }
 
 // The minute, 100,000 up, past which an ordinary row does not let its second point come, where its first is done at t.
 fn high_by(row: Row, t: u32) -> u32
     ensures { result ≡ high_by row t }
 {
-    either(
-        row.kind == ORDINARY_ROW,
-        reach(t, FARTHEST, row.first, row.second),
-        NEVER,
-    )
+    if row.kind == ORDINARY_ROW {
+        reach(t, FARTHEST, row.first, row.second)
+    } else {
+        NEVER
+    }
 }
 
 // ---- what a row changes of what is kept, once one of its points is done
@@ -137,9 +127,9 @@ pub fn free(row: Row, kept: &mut [u32; KEPT], t: u32)
     ensures { kept.new ≡ freed row t kept.old }
 {
     let v = place(row.from) as usize;
-    let holds = past(kept[v], hold(row));
-    let low = larger(kept[LOWS + v], low_by(row, t));
-    let run = larger(kept[RUNS + v], run_by(row, t));
+    let holds = kept[v].saturating_sub(hold(row));
+    let low = kept[LOWS + v].max(low_by(row, t));
+    let run = kept[RUNS + v].max(run_by(row, t));
     kept[v] = holds;
     kept[LOWS + v] = low;
     kept[RUNS + v] = run;
@@ -150,7 +140,7 @@ pub fn bound(row: Row, kept: &mut [u32; KEPT], t: u32)
     ensures { kept.new ≡ bounded row t kept.old }
 {
     let v = place(row.over) as usize;
-    let high = lesser(kept[HIGHS + v], high_by(row, t));
+    let high = kept[HIGHS + v].min(high_by(row, t));
     kept[HIGHS + v] = high;
 }
 
@@ -161,6 +151,9 @@ pub fn run_now(row: Row, kept: &[u32; KEPT]) -> u32
     let a = place(row.to);
     let done = kept[DONE];
     let runs = has(done, a) & !has(done, place(row.over));
-    let end = reach(kept[MINUTES + a as usize], 0, row.first, 0);
-    either((row.kind == WAIT_ROW) & runs, end, 0)
+    if (row.kind == WAIT_ROW) & runs {
+        reach(kept[MINUTES + a as usize], 0, row.first, 0)
+    } else {
+        0
+    }
 }

@@ -10,15 +10,13 @@ use lib.Dec.{eqb, ltb}
 use lib.ListN.{length, get_or, drop}
 use lib.Seq.{get_or-drop}
 use Rattle.points.specs.Sets.{member}
-use Rattle.std.specs.Prelude.{if◌then◌else◌}
+use Rattle.std.specs.Prelude.{if◌then◌else◌, Option, Some, None}
 use Rattle.plan.specs.Limits.{most_points, most_records}
 use Rattle.plan.specs.APlan.{one, how_many, some, blank, link_to, gap_of}
 use Rattle.records.specs.declared.Record.{Record}
 use Rattle.plan.proofs.Accepted.{Accepted}
 use Rattle.links.specs.Inside.{LinksOf}
 use Rattle.links.specs.declared.Links.{Links}
-use Rattle.plan.specs.declared.Found.{Found}
-use Rattle.plan.specs.declared.Found.TheVariants.{At, Nothing}
 use Rattle.history.proofs.Tests.{clash}
 use Rattle.lowhigh.specs.Rules.{shuts, is_open, place_from, is_nothing, number_at, holder}
 use Rattle.lowhigh.proofs.Firsts.{nothing_so}
@@ -86,11 +84,11 @@ module _ (rs : List Record) (ok : Accepted rs) (done q : ℕ) (here : q < most_p
       (λ k h. let e : 0 + k ≡ k = omega arith in rw e (ap (shut_said done q) (row_is (laid.laid.rows k h)) ∙ shut_said_lem (get_or rs k blank) (all_fine rs ok k h))))
 
 -- where nothing holds there is no record
-none_held : (f : Found) (b : Bool) → is_nothing f ≡ not b → (if not b then 0 else number_at f) ≡ number_at f
-none_held Nothing true e = refl
-none_held Nothing false e = refl
-none_held (At i) true e = refl
-none_held (At i) false e = clash (sym e)
+none_held : (f : Option ℕ) (b : Bool) → is_nothing f ≡ not b → (if not b then 0 else number_at f) ≡ number_at f
+none_held None true e = refl
+none_held None false e = refl
+none_held (Some i) true e = refl
+none_held (Some i) false e = clash (sym e)
 
 -- ---- the windows
 

@@ -13,10 +13,9 @@ ghost use Rattle.kept.specs.Rooms.{highs_at};
 ghost use Rattle.kept_windows.specs.Answers.{open_at, low_at, shut_by, shut_at, holder_at, HoldersOf, with_holders, Bare, Answered};
 
 use kept::{CLOCK, DONE, HIGHS, KEPT, LOWS, RUNS, is_holding, place};
-use lowhigh::{NEVER, larger, lesser, with_if};
-use neighbours::{LIST, SIDE, onward, start};
-use plan::MOST_RECORDS;
-use points::{MOST, first, has, without};
+use lowhigh::{NEVER, with_if};
+use neighbours::{LIST, SIDE, entries};
+use points::{MOST, has, members};
 use rows::{Row, SHEET, row_at};
 use windows::Windows;
 
@@ -25,9 +24,9 @@ fn is_open(kept: &[u32; KEPT], points: u32, watched: u32, p: u8) -> bool
     requires { p < most_points }
     ensures { result ≡ open_at kept.now points watched p }
 {
-    let holds = kept[p as usize];
+    let holds = kept[usize::from(p)];
     let done = has(kept[DONE], p);
-    (((p as u32) < points) & (!has(watched, p) & !done)) & (holds == 0)
+    ((u32::from(p) < points) & (!has(watched, p) & !done)) & (holds == 0)
 }
 
 // The Low of a point.
@@ -35,8 +34,8 @@ pub fn low_at(kept: &[u32; KEPT], p: u8) -> u32
     requires { p < most_points }
     ensures { result ≡ low_at kept.now p }
 {
-    let q = p as usize;
-    larger(kept[CLOCK], larger(kept[LOWS + q], kept[RUNS + q]))
+    let q = usize::from(p);
+    kept[CLOCK].max(kept[LOWS + q].max(kept[RUNS + q]))
 }
 
 // The least High of some points, 100,000 up.
@@ -44,11 +43,8 @@ fn high_of(kept: &[u32; KEPT], set: u32) -> u32
     ensures { result ≡ least_at (drop highs_at kept.now) (members_of set) }
 {
     let mut least = NEVER;
-    let mut rest = set;
-    while rest != 0 {
-        let p = first(rest);
-        least = lesser(least, kept[HIGHS + p as usize]);
-        rest = without(rest, p);
+    for p in members(set) {
+        least = least.min(kept[HIGHS + usize::from(p)]);
     }
     least
 }
@@ -64,14 +60,10 @@ fn still_holds(row: Row, done: u32) -> bool
 fn first_holder(rows: &[u32; SHEET], out: &[u16; LIST], done: u32, v: u8) -> u32
     ensures { result ≡ first_at (shut_at rows.now done) (entries_of out.now v) }
 {
-    let mut i = start(out, v as usize);
-    let mut left = MOST_RECORDS;
-    while i < MOST_RECORDS {
+    for i in entries(out, usize::from(v)) {
         if still_holds(row_at(rows, i), done) {
             return i as u32;
         }
-        left -= 1;
-        i = onward(out, i, left);
     }
     0
 }
@@ -81,7 +73,7 @@ fn holder_at(rows: &[u32; SHEET], out: &[u16; LIST], kept: &[u32; KEPT], p: u8) 
     requires { p < most_points }
     ensures { result ≡ holder_at rows.now out.now kept.now p }
 {
-    if kept[p as usize] == 0 {
+    if kept[usize::from(p)] == 0 {
         return 0;
     }
     first_holder(rows, out, kept[DONE], p)
@@ -94,18 +86,16 @@ pub fn bare_windows(kept: &[u32; KEPT], points: u32, watched: u32) -> Windows
 {
     let mut opens: u32 = 0;
     let mut lows: [u32; SIDE] = [0; SIDE];
-    let mut p: u8 = MOST;
-    while 0 < p {
-        p -= 1;
-        let q = p as usize;
+    for p in (0..MOST).rev() {
+        let q = usize::from(p);
         opens = with_if(is_open(kept, points, watched, p), opens, p);
         lows[q] = low_at(kept, p);
     }
     let holders: [u32; SIDE] = [0; SIDE];
     Windows {
-        opens: opens,
-        holders: holders,
-        lows: lows,
+        opens,
+        holders,
+        lows,
         high: high_of(kept, opens),
     }
 }
@@ -115,10 +105,8 @@ fn holders_of(rows: &[u32; SHEET], out: &[u16; LIST], kept: &[u32; KEPT]) -> [u3
     ensures { HoldersOf rows.now out.now kept.now result }
 {
     let mut holders: [u32; SIDE] = [0; SIDE];
-    let mut p: u8 = 0;
-    while p < MOST {
-        holders[p as usize] = holder_at(rows, out, kept, p);
-        p += 1;
+    for p in 0..MOST {
+        holders[usize::from(p)] = holder_at(rows, out, kept, p);
     }
     holders
 }
@@ -127,13 +115,7 @@ fn holders_of(rows: &[u32; SHEET], out: &[u16; LIST], kept: &[u32; KEPT]) -> [u3
 fn with_holders(w: Windows, holders: [u32; SIDE]) -> Windows
     ensures { result ≡ with_holders w holders }
 {
-    let lows = w.lows;
-    Windows {
-        opens: w.opens,
-        holders: holders,
-        lows: lows,
-        high: w.high,
-    }
+    Windows { holders, ..w }
 }
 
 // The windows, with the record that holds each point.

@@ -20,7 +20,8 @@ use Rattle.rows.proofs.Lays.{inside}
 use Rattle.projection.proofs.Laws.{ends, same_distances}
 use Rattle.projection.proofs.Judges.{part_cycle, rising_edges}
 use Rattle.lengths.specs.declared.Length.{Length}
-use Rattle.lengths.specs.Lengths.{length_of, no_length, Least, nothing, least}
+use Rattle.std.specs.Prelude.{Option, None, Some}
+use Rattle.lengths.specs.Lengths.{length_of, Least, nothing, least}
 use Rattle.lengths.specs.Meets.{never, together, length_from, MeetAsks, Through, Met, AllowAsks}
 
 -- two that are there, and others
@@ -117,13 +118,13 @@ module _ {s w : List ℕ} {m n x y : ℕ} (a : AllowAsks s w m n x y) where
           let lr = finite (raw r M y) l.0 in
           omega (arith, k.1, l.1, wide_in (raw g x M) kg, wide_in (raw r M y) lr, t.low M i kg lr)
 
-      pub allowed_is : {z : Length} → z ≡ length_from v → Least (Vee (SheetEdge s w m) x y) z
+      pub allowed_is : {z : Option Length} → z ≡ length_from v → Least (Vee (SheetEdge s w m) x y) z
       allowed_is e = elim (dec_lt v never) [
         | yes h ↦ rw (e, lt-ltb v never h) (real (t.real h))
         | no h ↦ rw (e, le-ltb v never (omega arith)) (nothing (λ u d c. omega (arith, over_it c)))
       ]
         where
-          real : Through n g r x y v → Least (Vee (SheetEdge s w m) x y) (length_of v nowhere)
+          real : Through n g r x y v → Least (Vee (SheetEdge s w m) x y) (Some (length_of v nowhere))
           real o =
               let k = falls.real x o.M a.from o.inside (wide_there (raw g x o.M) o.falls) in
               let l = rises.real o.M y o.inside a.to (wide_there (raw r o.M y) o.rises) in
@@ -133,8 +134,8 @@ module _ {s w : List ℕ} {m n x y : ℕ} (a : AllowAsks s w m n x y) where
               rw (eu, ed) (least (vee k.walk l.walk) (λ u d c. omega (arith, over_it c)))
 
 -- what the sum of two stands for
-pub length_there : (v : ℕ) {z : Length} → v < never → z ≡ length_of v nowhere → z ≡ length_from v
-length_there v h e = rw (lt-ltb v never h) e
+pub length_there : (v : ℕ) {z : Length} → v < never → z ≡ length_of v nowhere → Some z ≡ length_from v
+length_there v h e = rw (lt-ltb v never h, e) refl
 
-pub length_none : (v : ℕ) {z : Length} → never ≤ v → z ≡ no_length → z ≡ length_from v
-length_none v h e = rw (le-ltb v never h) e
+pub length_none : (v : ℕ) → never ≤ v → None ≡ length_from v
+length_none v h = rw (le-ltb v never h) refl

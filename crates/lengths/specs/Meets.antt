@@ -1,11 +1,11 @@
 -- What the functions that find the least way ask and do. A reader of the rules can leave this page out. Assumes nothing.
-use Rattle.std.specs.Prelude.{◌≡◌, ◌&&◌, List, ℕ, ◌+◌, ◌<◌, ◌≤◌, ltb, if◌then◌else◌}
+use Rattle.std.specs.Prelude.{◌≡◌, ◌&&◌, List, ℕ, ◌+◌, ◌<◌, ◌≤◌, ltb, if◌then◌else◌, Option, None, Some}
 use Rattle.network.specs.Passing.{Consistent}
 use Rattle.tables.specs.Tables.{side}
 use Rattle.tables.specs.Entries.{raw, nowhere}
 use Rattle.rows.specs.Sheet.{SheetEdge, SheetReady}
 use Rattle.lengths.specs.declared.Length.{Length}
-use Rattle.lengths.specs.Lengths.{length_of, no_length}
+use Rattle.lengths.specs.Lengths.{length_of}
 
 abbrev pub never : ℕ
 never = 4294967296
@@ -15,8 +15,8 @@ abbrev pub together : ℕ → ℕ → ℕ
 together a b = if ltb a nowhere && ltb b nowhere then a + b else never
 
 -- what two together stand for
-abbrev pub length_from : ℕ → Length
-length_from v = if ltb v never then length_of v nowhere else no_length
+abbrev pub length_from : ℕ → Option Length
+length_from v = if ltb v never then Some (length_of v nowhere) else None
 
 pub record MeetAsks (n x y : ℕ) : Type 0 where
   pub few : n ≤ side

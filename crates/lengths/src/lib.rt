@@ -4,20 +4,19 @@
 
 #![tactic(auto)]
 
-ghost use Rattle.std.specs.Prelude.{◌≡◌, ◌+◌, ◌-◌, ◌<◌, ◌≤◌, min};
+ghost use Rattle.std.specs.Prelude.{◌≡◌, ◌<◌, ◌≤◌};
 ghost use Rattle.network.specs.Walks.{Vee};
 ghost use Rattle.tables.specs.Tables.{side};
 ghost use Rattle.rows.specs.Sheet.{SheetEdge};
-ghost use Rattle.lengths.specs.Lengths.{length_of, no_length, Least};
+ghost use Rattle.lengths.specs.Lengths.{length_of, Least};
 ghost use Rattle.lengths.specs.Meets.{never, together, length_from, MeetAsks, Met, AllowAsks};
 
 use rows::{SHEET, fill};
 use tables::{NONE, Part, ROOM, SIDE};
 
-// The length of a walk, `up` less `down`, of which one is 0; or that there is no walk.
+// The length of a walk, `up` less `down`, of which one is 0.
 #[derive(Clone, Copy)]
 pub struct Length {
-    pub there: bool,
     pub up: u64,
     pub down: u64,
 }
@@ -28,50 +27,25 @@ const NEVER: u64 = 4294967296;
 // Two distances that are added have twice the bias, which is `NONE`.
 const TWICE: u64 = NONE as u64;
 
-fn excess(a: u64, b: u64) -> u64
-    ensures { result ≡ a - b }
-{
-    if b < a { a - b } else { 0 }
-}
-
-fn least(a: u64, b: u64) -> u64
-    ensures { result ≡ min a b }
-{
-    if a < b { a } else { b }
-}
-
 // The length `up` less `down`.
 pub fn length_of(up: u64, down: u64) -> Length
     ensures { result ≡ length_of up down }
 {
     Length {
-        there: true,
-        up: excess(up, down),
-        down: excess(down, up),
+        up: up.saturating_sub(down),
+        down: down.saturating_sub(up),
     }
 }
 
-// No walk.
-pub fn no_length() -> Length
-    ensures { result ≡ no_length }
-{
-    Length {
-        there: false,
-        up: 0,
-        down: 0,
-    }
-}
-
-// A distance and another after it.
+// A distance and another after it, `NEVER` where one is missing: a number for that and no `None`, since the least of all is then a plain `min`.
 fn both(a: u32, b: u32) -> u64
     ensures { result ≡ together a b }
 {
-    if a < NONE {
-        if b < NONE {
-            return a as u64 + b as u64;
-        }
+    if a < NONE && b < NONE {
+        u64::from(a) + u64::from(b)
+    } else {
+        NEVER
     }
-    NEVER
 }
 
 // The least that a way down from `x` to some point and a way up from there to `y` come to.
@@ -81,21 +55,22 @@ fn meet(fall: &[u32; ROOM], rise: &[u32; ROOM], n: usize, x: usize, y: usize) ->
 {
     let mut best = NEVER;
     for k in 0..n {
-        best = least(best, both(fall[x * SIDE + k], rise[k * SIDE + y]));
+        best = best.min(both(fall[x * SIDE + k], rise[k * SIDE + y]));
     }
     best
 }
 
-fn length_from(v: u64) -> Length
+fn length_from(v: u64) -> Option<Length>
     ensures { result ≡ length_from v }
 {
     if v < NEVER {
-        return length_of(v, TWICE);
+        Some(length_of(v, TWICE))
+    } else {
+        None
     }
-    no_length()
 }
 
-// The least length of a walk of negative edges and then non-negative ones from `x` to `y`.
+// The least length of a walk of negative edges and then non-negative ones from `x` to `y`, if there is one.
 pub fn allowed(
     sheet: &[u32; SHEET],
     durations: &[u64; SIDE],
@@ -105,7 +80,7 @@ pub fn allowed(
     y: usize,
     fall: &mut [u32; ROOM],
     rise: &mut [u32; ROOM],
-) -> Length
+) -> Option<Length>
     requires { AllowAsks sheet.now durations.now m n x y }
     ensures { Least (Vee (SheetEdge sheet.now durations.now m) x y) result }
 {

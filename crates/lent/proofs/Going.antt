@@ -5,8 +5,7 @@ use mathlib.Core.Bool.{Bool, true, false, not, true≢false}
 use mathlib.Core.List.{List, [], ◌∷◌}
 use Prim.Native.Nat.{ℕ, suc, ◌+◌, ◌≤◌, ◌<◌}
 use native.Mathlib.Numerals.{add-one}
-use lib.Dec.{eqb, ltb}
-use borrow.Author.Tests.{ltb-true, ltb-false}
+use lib.Dec.{eqb}
 use lib.IntN.{pos}
 use lib.ListN.{length, drop, get_or, drop_of_length-le}
 use lib.Seq.{drop-cons}
@@ -17,7 +16,7 @@ use Rattle.bounds.specs.declared.Bound.{Bound}
 use Rattle.verdict.specs.Verdicts.{ended_of}
 use Rattle.board.specs.declared.Board.{Board}
 use Rattle.lent.specs.Judgement.{named_in, kept_on, first_not, listed, judge_of}
-use Rattle.lent.specs.Inside.{begun_of, goes_on, judged_after, gone_through}
+use Rattle.lent.specs.Inside.{begun_of, is_refused, judged_after, gone_through}
 use Rattle.lent.specs.declared.Judged.{Judged}
 use Rattle.lent.specs.declared.Judged.TheVariants.{Refused, Kept, Broken}
 use Rattle.lent.specs.declared.Judging.{Judging}
@@ -72,24 +71,14 @@ module _ (s : Judging) (i : ℕ) (ys : List Bound) where
   unfolding gone_through
   passed none h = rw (drop-cons ys i none h, add-one i)
 
-  over : length ys ≤ i → s.answer ≡ gone_through s i (drop i ys)
+  pub over : length ys ≤ i → s.answer ≡ gone_through s i (drop i ys)
   unfolding gone_through
   over h = rw (drop_of_length-le ys h)
 
-  pub stopped : goes_on s.answer i (length ys) ≡ false → s.answer ≡ gone_through s i (drop i ys)
+  pub stopped : is_refused s.answer ≡ true → s.answer ≡ gone_through s i (drop i ys)
   stopped = go s.answer refl
     where
-      go : (a : Judged) → s.answer ≡ a → goes_on a i (length ys) ≡ false → s.answer ≡ gone_through s i (drop i ys)
+      go : (a : Judged) → s.answer ≡ a → is_refused a ≡ true → s.answer ≡ gone_through s i (drop i ys)
       go (Refused k j) is h = is ∙ sym (refused s k j i (drop i ys) is)
-      go Kept is h = over (ltb-false i (length ys) h)
-      go (Broken j) is h = over (ltb-false i (length ys) h)
-
--- where the list goes on there is a bound at the place
-pub going : (a : Judged) (i n : ℕ) → goes_on a i n ≡ true → i < n
-going (Refused k j) i n h = absurd (true≢false (sym h))
-going Kept i n h = ltb-true i n h
-going (Broken j) i n h = ltb-true i n h
-
--- where nothing is refused, every bound of the list is still to be looked at
-pub kept_goes : (a : Judged) (i n : ℕ) → a ≡ Kept → ltb i n ≡ goes_on a i n
-kept_goes a i n e = rw e
+      go Kept is h = absurd (true≢false (sym h))
+      go (Broken j) is h = absurd (true≢false (sym h))

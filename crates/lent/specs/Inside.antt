@@ -1,5 +1,5 @@
 -- What the crate's own functions answer, one bound at a time: no reader of `judge` needs this page. Assumes nothing.
-use Rattle.std.specs.Prelude.{Bool, false, not, List, [], ◌∷◌, ℕ, suc, eqb, ltb, if◌then◌else◌}
+use Rattle.std.specs.Prelude.{Bool, true, false, not, List, [], ◌∷◌, ℕ, suc, eqb, if◌then◌else◌}
 use Rattle.plan.specs.APlan.{points, records_of}
 use Rattle.plan.specs.declared.Plan.{Plan}
 use Rattle.bounds.specs.declared.Bound.{Bound}
@@ -19,11 +19,11 @@ begun_of p b =
       board = b;
     }
 
--- after the answer a, the place i of a list of n is still to be looked at
-abbrev pub goes_on : Judged → ℕ → ℕ → Bool
-goes_on (Refused k j) i n = false
-goes_on Kept i n = ltb i n
-goes_on (Broken j) i n = ltb i n
+-- a refusal stays, whatever bounds come
+abbrev pub is_refused : Judged → Bool
+is_refused (Refused k j) = true
+is_refused Kept = false
+is_refused (Broken j) = false
 
 -- after the answer a, with one bound at the place i
 abbrev pub answer_after : Judged → ℕ → Bool → Bool → Judged

@@ -6,7 +6,7 @@
 
 ghost use Rattle.std.specs.Prelude.{◌≡◌, min, take};
 ghost use Rattle.lent.specs.Judgement.{judge_of};
-ghost use Rattle.lent.specs.Inside.{begun_of, goes_on, answer_after, judged_after, list_room};
+ghost use Rattle.lent.specs.Inside.{begun_of, is_refused, answer_after, judged_after, list_room};
 
 use board::{Board, minute_of};
 pub use bounds::Bound;
@@ -19,6 +19,7 @@ pub const LIST_ROOM: usize = 4096;
 
 // What judging a list answers: a reply number with the place that it is about, kept, or the place of the first broken
 // bound. Places in the list are counted from 0.
+// Three outcomes, each with its own values: so no Result.
 #[derive(Clone, Copy)]
 pub enum Judged {
     Refused(u32, usize),
@@ -43,26 +44,24 @@ fn begun(plan: Plan, board: Board) -> Judging
     if found.number != ACCEPTED {
         return Judging {
             answer: Judged::Refused(found.number, found.place as usize),
-            points: points,
-            board: board,
+            points,
+            board,
         };
     }
     Judging {
         answer: Judged::Kept,
-        points: points,
-        board: board,
+        points,
+        board,
     }
 }
 
-// The bound at the place i is still to be looked at: there is one, and nothing is refused.
-fn goes_on(past: Judging, i: usize, length: usize) -> bool
-    ensures { result ≡ goes_on past.answer i length }
+// A refusal stays, whatever bounds come.
+fn is_refused(answer: Judged) -> bool
+    ensures { result ≡ is_refused answer }
 {
-    let answer = past.answer;
     match answer {
-        Judged::Refused(_, _) => false,
-        Judged::Kept => i < length,
-        Judged::Broken(_) => i < length,
+        Judged::Refused(_, _) => true,
+        Judged::Kept | Judged::Broken(_) => false,
     }
 }
 
@@ -105,7 +104,7 @@ fn judged_after(past: Judging, i: usize, b: Bound) -> Judging
     Judging {
         answer: answer_after(answer, i, named, kept),
         points: past.points,
-        board: board,
+        board,
     }
 }
 
@@ -115,10 +114,11 @@ pub fn judge(plan: Plan, board: Board, list: &[Bound]) -> Judged
     ensures { result ≡ judge_of plan board list.now }
 {
     let mut so_far = begun(plan, board);
-    let mut i: usize = 0;
-    while goes_on(so_far, i, list.len()) {
-        so_far = judged_after(so_far, i, list[i]);
-        i += 1;
+    for (i, bound) in list.iter().enumerate() {
+        if is_refused(so_far.answer) {
+            break;
+        }
+        so_far = judged_after(so_far, i, *bound);
     }
     so_far.answer
 }
@@ -127,7 +127,7 @@ pub fn judge(plan: Plan, board: Board, list: &[Bound]) -> Judged
 fn listed(count: usize) -> usize
     ensures { result ≡ min count list_room }
 {
-    if count < LIST_ROOM { count } else { LIST_ROOM }
+    count.min(LIST_ROOM)
 }
 
 // The same of the first `count` bounds of a list by value: it lends them to `judge`.

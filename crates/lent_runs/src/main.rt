@@ -7,7 +7,7 @@ use board::Board;
 use bounds::Bound;
 use handles::{read_full, write_all};
 use lent::{Judged, LIST_ROOM, judge_list};
-use plan::Plan;
+use plan::{Plan, plan_in};
 use plan_file::read;
 use std::io::Stdout;
 
@@ -53,18 +53,14 @@ fn board(done: u32, last: u32, call: u32) -> Board {
     calls[3] = call;
     Board {
         clock: 47,
-        done: done,
-        minutes: minutes,
-        calls: calls,
+        done,
+        minutes,
+        calls,
     }
 }
 
 fn bound(from: u8, to: u8, bound: i32) -> Bound {
-    Bound {
-        from: from,
-        to: to,
-        bound: bound,
-    }
+    Bound { from, to, bound }
 }
 
 // The first `count` of a list that holds the same bound in each place but one.
@@ -138,10 +134,8 @@ fn main(rt: HostRuntime) {
     let out = rt.stdout();
     let mut bytes = [0u8; 144];
     let n = read_full(rt.stdin(), &mut bytes);
-    let haul = read(&bytes[..n]);
-    let none = read(&bytes[..0]);
-    let plan = haul.plan;
-    let empty = none.plan;
+    let plan = plan_in(read(&bytes[..n]));
+    let empty = plan_in(read(&bytes[..0]));
     numbers(out, plan);
     points(out, plan);
     lengths(out, plan);

@@ -266,7 +266,7 @@ module _ {rs : List Record} {total : ℕ} {kept : Plan} {dropped : List ℕ} {co
             go false (told_no n) f o = kept_on_lem n f o
 
   -- all records have been tried
-  pub going_end : length rs ≤ i → {r : Lighter} → r ≡ record { number = 0; place = 0; plan = kept; count = count; dropped = dropped }
+  pub going_end : length rs ≤ i → {r : Lighter} → r ≡ record { plan = kept; count = count; dropped = dropped }
       → Goes [] 0 rs g.ks (g.ds ++ []) × (r ≡ lighter_as g.ks (g.ds ++ []))
   going_end h {r} e =
       let z : i ≡ length rs = omega (arith, g.within) in

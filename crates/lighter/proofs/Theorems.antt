@@ -16,6 +16,8 @@ use Rattle.network.specs.Passing.{Passes}
 use Rattle.vee.specs.PlanTest.{net_of}
 use Rattle.vee.proofs.Rules.{Valid}
 use Rattle.vee.proofs.Testing.{accepted_plan}
+use Rattle.std.specs.Prelude.{Result, Ok}
+use Rattle.plan.specs.declared.Refusal.{Refusal}
 use Rattle.lighter.specs.declared.Lighter.{Lighter}
 use Rattle.lighter.specs.Lighter.{Goes, ends, drops, keeps, lighter_as, LighterOf, refused, too_many, fails, made}
 use Rattle.lighter.specs.Promises.{Lightened, Promised}
@@ -47,7 +49,7 @@ one_walk (keeps n g) (drops m g') = absurd (n m)
 one_walk (keeps n g) (keeps n' g') = one_walk g g'
 
 -- The contract permits a single answer.
-pub one_lighter : {p : Plan} {x y : Lighter} → LighterOf p x → LighterOf p y → x ≡ y
+pub one_lighter : {p : Plan} {x y : Result Lighter Refusal} → LighterOf p x → LighterOf p y → x ≡ y
 one_lighter (refused h) (refused k) = refl
 one_lighter (refused h) (too_many ok m) = absurd (h ok)
 one_lighter (refused h) (fails ok m n) = absurd (h ok)
@@ -85,12 +87,9 @@ module _ (p : Plan) (held : HeldPlan p) where
       }
 
   -- a refusal is none of these
-  pub lightened : {x : Lighter} → LighterOf p x → x.number ≡ 0 → Lightened p x
-  lightened (refused h) e = absurd (h e)
-  lightened (too_many ok m) e = absurd (omega arith)
-  lightened (fails ok m n) e = absurd (omega arith)
-  lightened (made ok m passes g) e = made_stands ok passes g
+  pub lightened : {x : Lighter} → LighterOf p (Ok x) → Lightened p x
+  lightened (made ok m passes g) = made_stands ok passes g
 
 -- What is promised of each answer that the contract permits.
-pub promised : {p : Plan} {x : Lighter} → LighterOf p x → Promised p x
-promised {p} l = record { lightened = λ h e. lightened p h l e; single = λ y m. one_lighter l m }
+pub promised : {p : Plan} {x : Result Lighter Refusal} → LighterOf p x → Promised p x
+promised {p} l = record { lightened = λ h y e. lightened p h (rw e at l); single = λ y m. one_lighter l m }

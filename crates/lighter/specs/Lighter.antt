@@ -1,6 +1,6 @@
 -- Document 02, §11, "A lighter plan, with a list of what went": which ordinary records go, in the words of the request, and what is
 -- answered. A weight is a pair of natural numbers, up and down, and stands for up − down. Assumes nothing.
-use Rattle.std.specs.Prelude.{◌≡◌, ◌≢◌, ◌↔◌, true, List, [], ◌∷◌, ◌++◌, ℕ, suc, ◌+◌, ◌-◌, ◌<◌, ◌≤◌, length, replicate}
+use Rattle.std.specs.Prelude.{◌≡◌, ◌≢◌, ◌↔◌, true, List, [], ◌∷◌, ◌++◌, ℕ, suc, ◌+◌, ◌-◌, ◌<◌, ◌≤◌, length, replicate, Result, Ok, Err}
 use Rattle.plan.specs.Limits.{most_records}
 use Rattle.plan.specs.APlan.{ordinary, is, records_of, plan_of}
 use Rattle.plan.specs.ReplyNumbers.{check_of, refusal}
@@ -44,20 +44,16 @@ pub data Goes : List Record → ℕ → List Record → List Record → List ℕ
   drops : {ks more qs : List Record} {i : ℕ} {r : Record} {ds : List ℕ} → MayGo ks r more → Goes ks (suc i) more qs ds → Goes ks i (r ∷ more) qs (i ∷ ds)
   keeps : {ks more qs : List Record} {i : ℕ} {r : Record} {ds : List ℕ} → (MayGo ks r more → ⊥) → Goes (ks ++ (r ∷ [])) (suc i) more qs ds → Goes ks i (r ∷ more) qs ds
 
--- a refusal, with a plan without records and no numbers
-abbrev pub refused_as : Refusal → Lighter
-refused_as x = record { number = x.number; place = x.place; plan = plan_of []; count = 0; dropped = replicate most_records 0 }
-
 -- "the lighter plan and the numbers of the records dropped", how many there are, and 0 in the room after them. The list has room for
 -- a number of every record that a plan can have, so that it is never too short
 abbrev pub lighter_as : List Record → List ℕ → Lighter
 lighter_as qs ds =
-    record { number = 0; place = 0; plan = plan_of qs; count = length ds; dropped = ds ++ replicate (most_records - length ds) 0 }
+    record { plan = plan_of qs; count = length ds; dropped = ds ++ replicate (most_records - length ds) 0 }
 
 -- the answer to the plan p: its own refusal; "13 as in the test, then 60 for a plan that doesn't pass"; else the lighter plan
-pub data LighterOf (p : Plan) : Lighter → Type 0 where
-  refused : (check_of p).number ≢ 0 → LighterOf p (refused_as (check_of p))
-  too_many : (check_of p).number ≡ 0 → most_projections < many (spans (records_of p)) → LighterOf p (refused_as (refusal 13 0))
-  fails : (check_of p).number ≡ 0 → many (spans (records_of p)) ≤ most_projections → (Passes (net_of (records_of p)) → ⊥) → LighterOf p (refused_as (refusal 60 0))
+pub data LighterOf (p : Plan) : Result Lighter Refusal → Type 0 where
+  refused : (check_of p).number ≢ 0 → LighterOf p (Err (check_of p))
+  too_many : (check_of p).number ≡ 0 → most_projections < many (spans (records_of p)) → LighterOf p (Err (refusal 13 0))
+  fails : (check_of p).number ≡ 0 → many (spans (records_of p)) ≤ most_projections → (Passes (net_of (records_of p)) → ⊥) → LighterOf p (Err (refusal 60 0))
   made : {qs : List Record} {ds : List ℕ} → (check_of p).number ≡ 0 → many (spans (records_of p)) ≤ most_projections → Passes (net_of (records_of p))
-      → Goes [] 0 (records_of p) qs ds → LighterOf p (lighter_as qs ds)
+      → Goes [] 0 (records_of p) qs ds → LighterOf p (Ok (lighter_as qs ds))

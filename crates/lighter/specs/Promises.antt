@@ -1,11 +1,12 @@
 -- Document 02, §11, "A lighter plan, with a list of what went": what is promised of the lighter plan, in the words of the request. p is
 -- any plan, q the lighter plan that is made of it and ds the numbers of the records dropped. Assumes nothing.
-use Rattle.std.specs.Prelude.{◌≡◌, Bool, true, false, List, [], ◌∷◌, ◌++◌, ℕ, suc, min, ◌+◌, ◌≤◌, ◌<◌, length, get_or, take, drop}
+use Rattle.std.specs.Prelude.{◌≡◌, Bool, true, false, List, [], ◌∷◌, ◌++◌, ℕ, suc, min, ◌+◌, ◌≤◌, ◌<◌, length, get_or, take, drop, Result, Ok}
 use Rattle.plan.specs.APlan.{ordinary, is, blank, records_of}
 use Rattle.plan.specs.ReplyNumbers.{check_of}
 use Rattle.plan.specs.Held.{HeldPlan}
 use Rattle.records.specs.declared.Record.{Record}
 use Rattle.plan.specs.declared.Plan.{Plan}
+use Rattle.plan.specs.declared.Refusal.{Refusal}
 use Rattle.network.specs.Projection.{InBounds}
 use Rattle.network.specs.Passing.{Passes}
 use Rattle.vee.specs.PlanTest.{OrdinaryIn, LinkIn, WaitIn, net_of}
@@ -60,7 +61,7 @@ pub record Stands (rs qs : List Record) (ds : List ℕ) : Type 0 where
   pub kept : (ω g : ℕ → ℕ) → KeptBy qs ω g → KeptBy rs ω g
   pub still_kept : (ω g : ℕ → ℕ) → KeptBy rs ω g → KeptBy qs ω g
 
--- what is promised of an answer that refuses nothing
+-- what is promised of a lighter plan
 pub record Lightened (p : Plan) (x : Lighter) : Type 0 where
   -- it is a plan
   pub accepted : (check_of x.plan).number ≡ 0
@@ -69,6 +70,6 @@ pub record Lightened (p : Plan) (x : Lighter) : Type 0 where
   pub count : x.count ≤ length x.dropped
 
 -- each answer that refuses nothing stands, for any plan that a program can hold; and an answer is the only one
-pub record Promised (p : Plan) (x : Lighter) : Type 0 where
-  pub lightened : HeldPlan p → x.number ≡ 0 → Lightened p x
-  pub single : (y : Lighter) → LighterOf p y → x ≡ y
+pub record Promised (p : Plan) (x : Result Lighter Refusal) : Type 0 where
+  pub lightened : HeldPlan p → (y : Lighter) → x ≡ Ok y → Lightened p y
+  pub single : (y : Result Lighter Refusal) → LighterOf p y → x ≡ y

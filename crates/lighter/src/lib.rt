@@ -6,21 +6,18 @@
 ghost use Rattle.std.specs.Prelude.{◌≡◌, ◌≤◌, if◌then◌else◌};
 ghost use Rattle.plan.specs.Limits.{most_records};
 ghost use Rattle.plan.specs.APlan.{records_of, plan_of};
-ghost use Rattle.plan.specs.ReplyNumbers.{refusal};
-ghost use Rattle.lighter.specs.Lighter.{refused_as, LighterOf};
+ghost use Rattle.lighter.specs.Lighter.{LighterOf};
 ghost use Rattle.lighter.specs.Inside.{but, DropAsks, Dropped};
 
 use dropping::is_spare;
-use plan::{ACCEPTED, MOST_RECORDS, Plan};
+use plan::{MOST_RECORDS, Plan, Refusal};
 use records::{no_records, one_if};
 use vee::{Answer, test};
 
-// What is answered: number 0, the lighter plan, how many records were dropped and their numbers in the plan as it came in, in order;
-// or a refusal with its record, a plan without records and no numbers. Room past the last number is 0.
+// The lighter plan, how many records were dropped and their numbers in the plan as it came in, in order. Room past the last number is 0.
+// A room with its length beside it: the project has no heap.
 #[derive(Clone, Copy)]
 pub struct Lighter {
-    pub number: u32,
-    pub place: u32,
     pub plan: Plan,
     pub count: u32,
     pub dropped: [u32; MOST_RECORDS],
@@ -28,24 +25,6 @@ pub struct Lighter {
 
 // The reply number of a plan that does not pass the test.
 pub const DOES_NOT_PASS: u32 = 60;
-
-fn refuse(number: u32, place: u32) -> Lighter
-    ensures { result ≡ refused_as (refusal number place) }
-{
-    let records = no_records();
-    let plan = Plan {
-        count: 0,
-        records: records,
-    };
-    let dropped = [0u32; MOST_RECORDS];
-    Lighter {
-        number: number,
-        place: place,
-        plan: plan,
-        count: 0,
-        dropped: dropped,
-    }
-}
 
 // The plan of a plan's records but that at place `at`; of all where there is none.
 fn without(plan: Plan, at: usize) -> Plan
@@ -61,7 +40,7 @@ fn without(plan: Plan, at: usize) -> Plan
     }
     Plan {
         count: n as u32,
-        records: records,
+        records,
     }
 }
 
@@ -98,22 +77,22 @@ fn drop_all(plan: Plan, many: u32) -> Lighter
         count += one_if(gone) as usize;
     }
     Lighter {
-        number: ACCEPTED,
-        place: 0,
         plan: kept,
         count: count as u32,
-        dropped: dropped,
+        dropped,
     }
 }
 
 // The plan's own refusal, 13, 60 where it does not pass; else the lighter plan.
-pub fn lighter_of(plan: Plan) -> Lighter
+pub fn lighter_of(plan: Plan) -> Result<Lighter, Refusal>
     ensures { LighterOf plan result }
 {
     match test(plan) {
-        Answer::Refused(number, place) => refuse(number, place),
-        Answer::Yes(many) => drop_all(plan, many),
-        Answer::Cycle(_) => refuse(DOES_NOT_PASS, 0),
-        Answer::Pair(_, _, _) => refuse(DOES_NOT_PASS, 0),
+        Answer::Refused(number, place) => Err(Refusal { number, place }),
+        Answer::Yes(many) => Ok(drop_all(plan, many)),
+        Answer::Cycle(_) | Answer::Pair(_, _, _) => Err(Refusal {
+            number: DOES_NOT_PASS,
+            place: 0,
+        }),
     }
 }

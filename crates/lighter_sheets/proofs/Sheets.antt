@@ -1,23 +1,19 @@
 -- The sheets of a lighter plan are those of the plan as it came in. Assumes nothing.
-use mathlib.Core.Path.{◌≡◌, refl, sym, ap, subst, ◌∙◌}
+use mathlib.Core.Path.{◌≡◌, refl, sym, ap, ◌∙◌}
 use mathlib.Core.Logic.{◌↔◌}
-use mathlib.Core.List.{List, [], ◌∷◌}
-use Prim.Native.Nat.{ℕ, suc, ◌+◌, ◌≤◌}
+use mathlib.Core.List.{List, ◌∷◌}
+use Prim.Native.Nat.{ℕ}
 use native.Mathlib.Omega.{arith}
 use borrow.Author.Tests.{eqb-true}
-use Rattle.points.specs.Sets.{first_or}
-use Rattle.plan.specs.Limits.{farthest}
 use Rattle.plan.specs.APlan.{point, is, one, points, how_many, records_of, plan_of}
 use Rattle.plan.specs.Held.{HeldPlan}
-use Rattle.plan.specs.ReplyNumbers.{check_of}
 use Rattle.records.specs.declared.Record.{Record}
 use Rattle.plan.specs.declared.Plan.{Plan}
-use Rattle.network.specs.Passing.{Passes}
-use Rattle.vee.specs.PlanTest.{net_of}
-use Rattle.promise.specs.GoodSheets.{Near, minutes_of, in_order, GoodSheet, LetThrough, lasted, ExactlyTheGood}
+use Rattle.promise.specs.GoodSheets.{GoodSheet, lasted, ExactlyTheGood}
 use Rattle.promise.proofs.LetThrough.{exactly_the_good}
 use Rattle.lighter.specs.declared.Lighter.{Lighter}
-use Rattle.lighter.specs.Lighter.{Goes, LighterOf, refused, too_many, fails, made}
+use Rattle.std.specs.Prelude.{Ok}
+use Rattle.lighter.specs.Lighter.{LighterOf, made}
 use Rattle.lighter.specs.Promises.{KeptBy, Stands}
 use Rattle.lighter.proofs.Accepts.{records_of_lem}
 use Rattle.lighter.proofs.Keeping.{Stays, no_more, one_less, one_stays, goes_stays}
@@ -62,12 +58,9 @@ module _ (p q : Plan) (same : points (records_of q) ≡ points (records_of p)) {
         }
 
 -- A plan and the lighter plan that is made of it have the same good sheets, and the engine lets the same sheets through for both.
-pub same_sheets : (p : Plan) {x : Lighter} → HeldPlan p → LighterOf p x → x.number ≡ 0 → SameSheets p x.plan
-same_sheets p held (refused h) e = absurd (h e)
-same_sheets p held (too_many ok m) e = absurd (omega arith)
-same_sheets p held (fails ok m n) e = absurd (omega arith)
-same_sheets p held (made {qs = qs} {ds = ds} ok m passes g) e =
-    let l = lightened p held (made ok m passes g) e in
+pub same_sheets : (p : Plan) {x : Lighter} → HeldPlan p → LighterOf p (Ok x) → SameSheets p x.plan
+same_sheets p held (made {qs = qs} {ds = ds} ok m passes g) =
+    let l = lightened p held (made ok m passes g) in
     let t = goes_stays g in
     let n : points (records_of (plan_of qs)) ≡ points (records_of p) = ap (λ (l : List Record). points l) (records_of_lem qs ∙ t.1) ∙ stays_points t.2 in
     both p (plan_of qs) n l.stands (exactly_the_good p ok passes) (exactly_the_good (plan_of qs) l.accepted l.stands.passes)

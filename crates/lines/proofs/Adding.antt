@@ -6,8 +6,9 @@ use Prim.Native.Nat.{ℕ, zero, suc, ◌+◌, ◌-◌, ◌*◌, ◌/◌, ◌%◌
 use native.Mathlib.Omega.{arith}
 use native.Mathlib.Numerals.{add-one}
 use lib.Dec.{eqb, ltb}
-use lib.ListN.{length, take, drop, set, get_or, replicate, length-append, length-set, drop_of_length-le}
-use lib.Seq.{drop-cons, take-append_seam, set_at, append_snoc, take-suc, length-take-le}
+use lib.ListN.{length, drop, set, get_or, replicate, length-append, length-set, drop_of_length-le}
+use lib.Seq.{drop-cons, take-append_seam, set_at, append_snoc}
+use Rattle.std.proofs.lemmas.List.{drop_more}
 use borrow.Author.Tests.{lt-ltb, le-ltb, eq-eqb, ne_eqb, eqb-true, eqb-false}
 use Rattle.lines.specs.Text.{room, line_of, digits, decimal, spelled, letters, piece_text, more_text}
 use Rattle.lines.specs.Inside.{text_in, Whole, with, RoomFor}
@@ -246,45 +247,37 @@ pub few_more : (ps : List Piece) → length (more_text ps) ≤ 22 * length ps
 few_more [] = no_pieces
 few_more (p ∷ ps) = omega (arith, more_pieces p ps 21 (22 * length ps) (few_characters p) (few_more ps))
 
-more_snoc : (ps : List Piece) (p : Piece) → more_text (ps ++ (p ∷ [])) ≡ more_text ps ++ (32 ∷ piece_text p)
-unfolding more_text
-more_snoc [] p = append-nil (32 ∷ piece_text p)
-more_snoc (q ∷ ps) p = rw (more_snoc ps p) (sym (append_assoc (32 ∷ piece_text q) (more_text ps) (32 ∷ piece_text p)))
+-- the pieces from one on
+module _ (l : Line) (ps : List Piece) (i : ℕ) (h : i < length ps) (r : RoomFor l (more_text (drop i ps))) where
+  abbrev here_is : Piece
+  here_is = get_or ps i (Name 0)
 
-pub more_after : (ps qs : List Piece) → more_text (ps ++ qs) ≡ more_text ps ++ more_text qs
-unfolding more_text
-more_after [] qs = refl
-more_after (p ∷ ps) qs = rw (more_after ps qs) (sym (append_assoc (32 ∷ piece_text p) (more_text ps) (more_text qs)))
+  more_from : more_text (drop i ps) ≡ (32 ∷ []) ++ (piece_text here_is ++ more_text (drop (i + 1) ps))
+  unfolding more_text
+  more_from = rw (drop_more ps i (Name 0) h)
 
--- the text of fewer pieces is no longer
-more_longer : (ps : List Piece) (i n : ℕ) → i ≤ n → length (more_text (take i ps)) ≤ length (more_text (take n ps))
-unfolding more_text
-more_longer [] zero n h = omega arith
-more_longer [] (suc i) zero h = omega arith
-more_longer [] (suc i) (suc n) h = omega arith
-more_longer (p ∷ ps) zero n h = omega arith
-more_longer (p ∷ ps) (suc i) zero h = absurd (omega arith)
-more_longer (p ∷ ps) (suc i) (suc n) h =
-    omega (arith, length-append (32 ∷ piece_text p) (more_text (take i ps)), length-append (32 ∷ piece_text p) (more_text (take n ps)), more_longer ps i n (omega arith))
+  room_on : RoomFor l ((32 ∷ []) ++ (piece_text here_is ++ more_text (drop (i + 1) ps)))
+  room_on = rw more_from at r
 
--- a line that gets n pieces, and has i of them so far
-module _ (l : Line) (ps : List Piece) (i n : ℕ) (h : i < n) (m : n ≤ length ps) where
-  one_more : more_text (take (i + 1) ps) ≡ more_text (take i ps) ++ ((32 ∷ []) ++ piece_text (get_or ps i (Name 0)))
-  one_more = rw (add-one i, take-suc ps i (Name 0) (omega arith), more_snoc (take i ps) (get_or ps i (Name 0)))
+  pub room_space : RoomFor l (32 ∷ [])
+  room_space = room_first l (32 ∷ []) (piece_text here_is ++ more_text (drop (i + 1) ps)) room_on
 
-  room_on : RoomFor l (more_text (take n ps)) → RoomFor (with l (more_text (take i ps))) ((32 ∷ []) ++ piece_text (get_or ps i (Name 0)))
-  room_on r =
-      let few : RoomFor l (more_text (take (i + 1) ps)) = record { whole = r.whole; fits = omega (arith, r.fits, more_longer ps (i + 1) n (omega arith)) } in
-      room_after l (more_text (take i ps)) ((32 ∷ []) ++ piece_text (get_or ps i (Name 0))) (rw one_more at few)
+  behind_space : RoomFor (with l (32 ∷ [])) (piece_text here_is ++ more_text (drop (i + 1) ps))
+  behind_space = room_after l (32 ∷ []) (piece_text here_is ++ more_text (drop (i + 1) ps)) room_on
 
-  pub room_space : RoomFor l (more_text (take n ps)) → RoomFor (with l (more_text (take i ps))) (32 ∷ [])
-  room_space r = room_first (with l (more_text (take i ps))) (32 ∷ []) (piece_text (get_or ps i (Name 0))) (room_on r)
+  pub room_piece : RoomFor (with l (32 ∷ [])) (piece_text here_is)
+  room_piece = room_first (with l (32 ∷ [])) (piece_text here_is) (more_text (drop (i + 1) ps)) behind_space
 
-  pub room_piece : RoomFor l (more_text (take n ps)) → RoomFor (with (with l (more_text (take i ps))) (32 ∷ [])) (piece_text (get_or ps i (Name 0)))
-  room_piece r = room_after (with l (more_text (take i ps))) (32 ∷ []) (piece_text (get_or ps i (Name 0))) (room_on r)
+  pub room_rest : RoomFor (with (with l (32 ∷ [])) (piece_text here_is)) (more_text (drop (i + 1) ps))
+  room_rest = room_after (with l (32 ∷ [])) (piece_text here_is) (more_text (drop (i + 1) ps)) behind_space
 
-  pub with_one : with (with (with l (more_text (take i ps))) (32 ∷ [])) (piece_text (get_or ps i (Name 0))) ≡ with l (more_text (take (i + 1) ps))
+  pub with_one : with (with (with l (32 ∷ [])) (piece_text here_is)) (more_text (drop (i + 1) ps)) ≡ with l (more_text (drop i ps))
   with_one =
-      with_with (with l (more_text (take i ps))) (32 ∷ []) (piece_text (get_or ps i (Name 0)))
-      ∙ with_with l (more_text (take i ps)) ((32 ∷ []) ++ piece_text (get_or ps i (Name 0)))
-      ∙ ap (λ (ts : List ℕ). with l ts) (sym one_more)
+      with_with (with l (32 ∷ [])) (piece_text here_is) (more_text (drop (i + 1) ps))
+      ∙ with_with l (32 ∷ []) (piece_text here_is ++ more_text (drop (i + 1) ps))
+      ∙ ap (λ (ts : List ℕ). with l ts) (sym more_from)
+
+-- past the last there is nothing
+pub no_more : (ps : List Piece) (i : ℕ) → length ps ≤ i → more_text (drop i ps) ≡ []
+unfolding more_text
+no_more ps i h = rw (drop_of_length-le ps h)

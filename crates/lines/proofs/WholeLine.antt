@@ -1,16 +1,15 @@
 -- A whole line: text by text until nothing is left, and how long it can be. Assumes nothing.
 use mathlib.Core.Path.{◌≡◌, refl, ◌∙◌}
-use mathlib.Core.List.{List, [], ◌∷◌, ◌++◌, append_assoc}
+use mathlib.Core.List.{List, [], ◌∷◌, ◌++◌}
 use Prim.Native.Nat.{ℕ, ◌+◌, ◌*◌, ◌^◌, ◌≤◌, ◌<◌}
 use native.Mathlib.Omega.{arith}
-use lib.ListN.{length, take, length-append, length-take}
-use lib.Seq.{take_all}
+use lib.ListN.{length, length-append}
 use Rattle.lines.specs.Text.{room, line_of, piece_text, more_text, text_of}
 use Rattle.lines.specs.Inside.{with, RoomFor}
 use Rattle.lines.specs.declared.Line.{Line}
 use Rattle.lines.specs.declared.Piece.{Piece}
 use Rattle.lines.specs.declared.Piece.TheVariants.{Name, Number}
-use Rattle.lines.proofs.Adding.{fits_on, room_first, room_after, with_with, few_letters, ten_digits, few_characters, more_pieces, few_more, more_after}
+use Rattle.lines.proofs.Adding.{fits_on, room_first, room_after, with_with, few_letters, ten_digits, few_characters, more_pieces, few_more}
 
 -- the line l, with the text that is left, is the whole line
 pub record Left (l : Line) (left whole : List ℕ) : Type 0 where
@@ -34,9 +33,8 @@ text_long : (p : Piece) (ps : List Piece) (k n : ℕ) → length (piece_text p) 
 text_long p ps k n h m = omega (arith, length-append (piece_text p) (more_text ps ++ (10 ∷ [])), length-append (more_text ps) (10 ∷ []))
 
 -- five pieces fit
-pub five_fit : (p : Piece) (ps : List Piece) (n : ℕ) → n ≤ 4 → length (text_of p (take n ps)) ≤ room
-five_fit p ps n h =
-    omega (arith, length-take n ps, text_long p (take n ps) 21 (22 * length (take n ps)) (few_characters p) (few_more (take n ps)))
+pub five_fit : (p : Piece) (ps : List Piece) → length ps ≤ 4 → length (text_of p ps) ≤ room
+five_fit p ps h = omega (arith, text_long p ps 21 (22 * length ps) (few_characters p) (few_more ps))
 
 -- so do nine, of which three are words and three are numbers of thirty-two bits
 module _ (word a b what n kind : ℕ) (x y z : Piece) where
@@ -47,11 +45,3 @@ module _ (word a b what n kind : ℕ) (x y z : Piece) where
       let five = more_pieces (Number n) _ 10 _ (ten_digits n fn) (more_pieces (Name kind) _ 8 66 (few_letters kind) three) in
       let eight = more_pieces (Number a) _ 10 _ (ten_digits a fa) (more_pieces (Number b) _ 10 _ (ten_digits b fb) (more_pieces (Name what) _ 8 _ (few_letters what) five)) in
       omega (arith, text_long (Name word) (Number a ∷ Number b ∷ Name what ∷ Number n ∷ Name kind ∷ x ∷ y ∷ z ∷ []) 8 117 (few_letters word) eight)
-
--- pieces that come in two lists, each of them in whole
-pub lists_left : (l : Line) (p : Piece) (ps qs : List Piece) (n : ℕ) → l ≡ line_of [] → length (text_of p (ps ++ qs)) ≤ room → length ps ≡ n → length qs ≡ n
-    → Left l (piece_text p ++ (more_text (take n ps) ++ (more_text (take n qs) ++ (10 ∷ [])))) (text_of p (ps ++ qs))
-lists_left l p ps qs n e h f g =
-    let two : text_of p (ps ++ qs) ≡ piece_text p ++ (more_text ps ++ (more_text qs ++ (10 ∷ []))) =
-    rw (more_after ps qs, append_assoc (more_text ps) (more_text qs) (10 ∷ [])) in
-    rw (take_all n ps (omega (arith, f)), take_all n qs (omega (arith, g)), ← two) (all_left l (text_of p (ps ++ qs)) e h)

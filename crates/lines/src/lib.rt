@@ -4,7 +4,7 @@
 
 #![tactic(auto)]
 
-ghost use Rattle.std.specs.Prelude.{◌≡◌, [], ◌∷◌, ◌++◌, ◌+◌, ◌%◌, ◌≤◌, length, take};
+ghost use Rattle.std.specs.Prelude.{◌≡◌, [], ◌∷◌, ◌+◌, ◌%◌, ◌≤◌, length, min, take};
 ghost use Rattle.lines.specs.Text.{room, line_of, letters, decimal, piece_text, more_text, text_of};
 ghost use Rattle.lines.specs.Inside.{with, RoomFor, Spelt};
 
@@ -16,9 +16,7 @@ pub use shapes::{four, number, numbers, pair, state, state_at, state_by, three, 
 // thirty-two bits, and what stands between them.
 pub const ROOM: usize = 128;
 
-// How many pieces are handed on at once.
-const MORE: usize = 4;
-
+// A fixed buffer with its length, since the project has no heap.
 #[derive(Clone, Copy)]
 pub struct Line {
     pub len: usize,
@@ -43,14 +41,22 @@ struct Digits {
     digits: [u8; DIGITS],
 }
 
+impl Line {
+    // The text of the line; the whole room where its length is past that.
+    pub fn text(&self) -> &[u8]
+        ensures { result.now ≡ take (min self.now.len (length self.now.bytes)) self.now.bytes }
+    {
+        &self.bytes[..self.len.min(ROOM)]
+    }
+}
+
 // An empty line.
 pub fn blank() -> Line
     ensures { result ≡ line_of [] }
 {
-    let bytes = [0u8; ROOM];
     Line {
         len: 0,
-        bytes: bytes,
+        bytes: [0u8; ROOM],
     }
 }
 
@@ -73,6 +79,7 @@ fn with_word(line: Line, word: u64) -> Line
 {
     let mut next = line;
     let mut left = word;
+    // By division: no index is counted.
     while left != 0 {
         let at = next.len;
         next.bytes[at] = (left % 256) as u8;
@@ -86,7 +93,7 @@ fn with_word(line: Line, word: u64) -> Line
 fn last_digit(n: u64) -> u8
     ensures { result ≡ 48 + n % 10 }
 {
-    48 + ((n % 10) as u8)
+    b'0' + ((n % 10) as u8)
 }
 
 // The decimal digits of a number, at the end of the room.
@@ -98,15 +105,13 @@ fn digits_of(n: u64) -> Digits
     let mut from = DIGITS - 1;
     digits[from] = last_digit(left);
     left = left / 10;
+    // By division: no index is counted.
     while left != 0 {
         from -= 1;
         digits[from] = last_digit(left);
         left = left / 10;
     }
-    Digits {
-        from: from,
-        digits: digits,
-    }
+    Digits { from, digits }
 }
 
 // The line with a number more, in decimal.
@@ -116,12 +121,10 @@ fn with_number(line: Line, n: u64) -> Line
 {
     let spelt = digits_of(n);
     let mut next = line;
-    let mut i = spelt.from;
-    while i < DIGITS {
+    for i in spelt.from..DIGITS {
         let at = next.len;
         next.bytes[at] = spelt.digits[i];
         next.len = at + 1;
-        i += 1;
     }
     next
 }
@@ -134,40 +137,35 @@ fn with_piece(line: Line, piece: Piece) -> Line
     match piece {
         Piece::Name(word) => with_word(line, word),
         Piece::Number(n) => with_number(line, n),
-        Piece::Below(n) => with_number(with_byte(line, 45), n),
+        Piece::Below(n) => with_number(with_byte(line, b'-'), n),
     }
 }
 
-// The line with `count` pieces more, each behind a space.
-fn with_more(line: Line, more: [Piece; MORE], count: usize) -> Line
-    requires { (count ≤ 4) × RoomFor line (more_text (take count more)) }
-    ensures { result ≡ with line (more_text (take count more)) }
+// The line with some pieces more, each behind a space.
+fn with_more(line: Line, more: &[Piece]) -> Line
+    requires { RoomFor line (more_text more.now) }
+    ensures { result ≡ with line (more_text more.now) }
 {
     let mut next = line;
-    let mut i: usize = 0;
-    while i < count {
-        let piece = more[i];
-        next = with_piece(with_byte(next, 32), piece);
-        i += 1;
+    for &piece in more {
+        next = with_piece(with_byte(next, b' '), piece);
     }
     next
 }
 
-// A whole line: a piece, and `count` more.
-pub fn line_of(first: Piece, more: [Piece; MORE], count: usize) -> Line
-    requires { count ≤ 4 }
-    ensures { result ≡ line_of (text_of first (take count more)) }
+// A whole line: a piece, and up to four more.
+pub fn line_of(first: Piece, more: &[Piece]) -> Line
+    requires { length more.now ≤ 4 }
+    ensures { result ≡ line_of (text_of first more.now) }
 {
-    let line = with_more(with_piece(blank(), first), more, count);
-    with_byte(line, 10)
+    long_line(first, more)
 }
 
-// A whole line of nine pieces.
-pub(crate) fn long_line(first: Piece, more: [Piece; MORE], rest: [Piece; MORE]) -> Line
-    requires { length (text_of first (more ++ rest)) ≤ room }
-    ensures { result ≡ line_of (text_of first (more ++ rest)) }
+// A whole line of as many pieces as there is room for.
+pub(crate) fn long_line(first: Piece, more: &[Piece]) -> Line
+    requires { length (text_of first more.now) ≤ room }
+    ensures { result ≡ line_of (text_of first more.now) }
 {
-    let front = with_more(with_piece(blank(), first), more, MORE);
-    let whole = with_more(front, rest, MORE);
-    with_byte(whole, 10)
+    let line = with_more(with_piece(blank(), first), more);
+    with_byte(line, b'\n')
 }

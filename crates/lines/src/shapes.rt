@@ -10,64 +10,28 @@ use crate::{Line, Piece, line_of, long_line};
 pub fn word(word: u64) -> Line
     ensures { result ≡ said (Name word) [] }
 {
-    line_of(
-        Piece::Name(word),
-        [
-            Piece::Name(0),
-            Piece::Name(0),
-            Piece::Name(0),
-            Piece::Name(0),
-        ],
-        0,
-    )
+    line_of(Piece::Name(word), &[])
 }
 
 // Two words.
 pub fn two(word: u64, what: u64) -> Line
     ensures { result ≡ said (Name word) (Name what ∷ []) }
 {
-    line_of(
-        Piece::Name(word),
-        [
-            Piece::Name(what),
-            Piece::Name(0),
-            Piece::Name(0),
-            Piece::Name(0),
-        ],
-        1,
-    )
+    line_of(Piece::Name(word), &[Piece::Name(what)])
 }
 
 // A word and a number.
 pub fn number(word: u64, n: u32) -> Line
     ensures { result ≡ said (Name word) (Number n ∷ []) }
 {
-    line_of(
-        Piece::Name(word),
-        [
-            Piece::Number(n as u64),
-            Piece::Name(0),
-            Piece::Name(0),
-            Piece::Name(0),
-        ],
-        1,
-    )
+    line_of(Piece::Name(word), &[Piece::Number(n as u64)])
 }
 
 // A word and two numbers.
 pub fn numbers(word: u64, a: u64, b: u64) -> Line
     ensures { result ≡ said (Name word) (Number a ∷ Number b ∷ []) }
 {
-    line_of(
-        Piece::Name(word),
-        [
-            Piece::Number(a),
-            Piece::Number(b),
-            Piece::Name(0),
-            Piece::Name(0),
-        ],
-        2,
-    )
+    line_of(Piece::Name(word), &[Piece::Number(a), Piece::Number(b)])
 }
 
 // A word and three numbers.
@@ -76,13 +40,11 @@ pub fn three(word: u64, a: u64, b: u32, c: u32) -> Line
 {
     line_of(
         Piece::Name(word),
-        [
+        &[
             Piece::Number(a),
             Piece::Number(b as u64),
             Piece::Number(c as u64),
-            Piece::Name(0),
         ],
-        3,
     )
 }
 
@@ -92,13 +54,7 @@ pub fn words(word: u64, what: u64, n: u32) -> Line
 {
     line_of(
         Piece::Name(word),
-        [
-            Piece::Name(what),
-            Piece::Number(n as u64),
-            Piece::Name(0),
-            Piece::Name(0),
-        ],
-        2,
+        &[Piece::Name(what), Piece::Number(n as u64)],
     )
 }
 
@@ -108,13 +64,12 @@ pub fn pair(word: u64, what: u64, a: u32, b: u32, c: u32) -> Line
 {
     line_of(
         Piece::Name(word),
-        [
+        &[
             Piece::Name(what),
             Piece::Number(a as u64),
             Piece::Number(b as u64),
             Piece::Number(c as u64),
         ],
-        4,
     )
 }
 
@@ -124,13 +79,11 @@ pub fn state(word: u64, a: u32, b: u32, what: u64) -> Line
 {
     line_of(
         Piece::Name(word),
-        [
+        &[
             Piece::Number(a as u64),
             Piece::Number(b as u64),
             Piece::Name(what),
-            Piece::Name(0),
         ],
-        3,
     )
 }
 
@@ -140,13 +93,12 @@ pub fn state_at(word: u64, a: u32, b: u32, what: u64, n: u32) -> Line
 {
     line_of(
         Piece::Name(word),
-        [
+        &[
             Piece::Number(a as u64),
             Piece::Number(b as u64),
             Piece::Name(what),
             Piece::Number(n as u64),
         ],
-        4,
     )
 }
 
@@ -166,13 +118,16 @@ pub fn state_by(
 {
     long_line(
         Piece::Name(word),
-        [
+        &[
             Piece::Number(a as u64),
             Piece::Number(b as u64),
             Piece::Name(what),
             Piece::Number(n as u64),
+            Piece::Name(kind),
+            x,
+            y,
+            z,
         ],
-        [Piece::Name(kind), x, y, z],
     )
 }
 
@@ -182,12 +137,10 @@ pub fn four(a: u64, b: u32, c: u32, d: u32) -> Line
 {
     line_of(
         Piece::Number(a),
-        [
+        &[
             Piece::Number(b as u64),
             Piece::Number(c as u64),
             Piece::Number(d as u64),
-            Piece::Name(0),
         ],
-        3,
     )
 }

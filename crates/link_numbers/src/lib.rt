@@ -18,8 +18,8 @@ fn end_in(from: u32, shortest: u32, longest: u32) -> End
 {
     End {
         from: (from % 256) as u8,
-        shortest: shortest,
-        longest: longest,
+        shortest,
+        longest,
     }
 }
 
@@ -40,7 +40,7 @@ pub fn links_in(room: &[u32; LINKS]) -> Links
     Links {
         points: room[0],
         watched: room[1],
-        ends: ends,
+        ends,
     }
 }
 

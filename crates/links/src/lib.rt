@@ -10,10 +10,9 @@ ghost use Rattle.links.specs.Inside.{watched_after, end_after, Known, LinksOf};
 
 mod sets;
 
-use history::{ROOM, used};
-use plan::{LINK, POINT, Plan, Record, split};
+use history::ROOM;
+use plan::{LINK, POINT, Plan, Record, split, used};
 use points::{MOST, has, with};
-use records::one_if;
 pub use sets::{all_in_time, all_running};
 
 // The reply numbers 24 to 27.
@@ -83,15 +82,13 @@ pub fn links_by(plan: Plan, checked: bool) -> Links
     let mut ends = [none; ROOM];
     let mut watched: u32 = 0;
     let mut points: u32 = 0;
-    let mut i: usize = 0;
-    while i < count {
+    for i in 0..count {
         let r = plan.records[i];
         if checked & (LINK < r.kind) {
             break;
         }
-        i += 1;
         if r.kind != LINK {
-            points += one_if(r.kind == POINT);
+            points += u32::from(r.kind == POINT);
             continue;
         }
         let c = r.b as usize % ROOM;
@@ -100,9 +97,9 @@ pub fn links_by(plan: Plan, checked: bool) -> Links
         watched = watched_after(r, watched);
     }
     Links {
-        points: points,
-        watched: watched,
-        ends: ends,
+        points,
+        watched,
+        ends,
     }
 }
 

@@ -5,22 +5,18 @@ ghost use Rattle.points.specs.Sets.{members_of, every};
 ghost use Rattle.links.specs.Inside.{runs_at, timely, timely_at};
 
 use crate::{End, Links};
-use history::{ROOM, minute_at, wide};
-use points::{first, has, without};
+use history::{ROOM, minute_at};
+use points::{has, members};
 
 // 25: the set's points end running links.
 pub fn all_running(done: u32, links: Links, set: u32) -> bool
     ensures { result ≡ every (runs_at done links) (members_of set) }
 {
-    let mut rest = set;
-    while rest != 0 {
-        let p = first(rest);
-        let at = p as usize;
-        let end = links.ends[at];
+    for p in members(set) {
+        let end = links.ends[p as usize];
         if !(has(links.watched, p) & (has(done, end.from) & !has(done, p))) {
             return false;
         }
-        rest = without(rest, p);
     }
     true
 }
@@ -29,22 +25,19 @@ pub fn all_running(done: u32, links: Links, set: u32) -> bool
 fn is_timely(from: u32, end: End, t: u32) -> bool
     ensures { result ≡ timely from end t }
 {
-    (wide(from) + wide(end.shortest) <= wide(t)) & (wide(t) <= wide(from) + wide(end.longest))
+    (u64::from(from) + u64::from(end.shortest) <= u64::from(t))
+        & (u64::from(t) <= u64::from(from) + u64::from(end.longest))
 }
 
 // 26: each point of the set comes within its link's x to y.
 pub fn all_in_time(minutes: [u32; ROOM], links: Links, t: u32, set: u32) -> bool
     ensures { result ≡ every (timely_at minutes links t) (members_of set) }
 {
-    let mut rest = set;
-    while rest != 0 {
-        let p = first(rest);
-        let place = p as usize;
-        let end = links.ends[place];
+    for p in members(set) {
+        let end = links.ends[p as usize];
         if !is_timely(minute_at(minutes, end.from), end, t) {
             return false;
         }
-        rest = without(rest, p);
     }
     true
 }

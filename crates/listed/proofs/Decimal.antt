@@ -1,15 +1,14 @@
 -- A number as its decimal digits says that number, and its bytes part no words and no lines. Assumes nothing.
-use mathlib.Core.Path.{◌≡◌, refl, sym, ap, ◌∙◌}
+use mathlib.Core.Path.{◌≡◌, refl, ◌∙◌}
 use mathlib.Core.Bool.{Bool, true, false, cond}
 use mathlib.Core.List.{List, [], ◌∷◌, ◌++◌}
 use Prim.Native.Nat.{ℕ, zero, suc, ◌+◌, ◌/◌, ◌%◌, ◌^◌, ◌≤◌, ◌<◌}
 use native.Mathlib.Omega.{arith}
-use lib.Dec.{eqb, ltb, leb}
+use lib.Dec.{ltb, leb}
 use lib.IntN.{ℤ, pos, negsuc}
 use lib.ListN.{length, length-append}
 use lib.Signed.{mag}
-use borrow.Author.Tests.{ne_eqb, lt-ltb, leb-true, ltb-true, ltb-false}
-use Rattle.std.specs.Prelude.{if◌then◌else◌}
+use borrow.Author.Tests.{ne_eqb, lt-ltb, leb-true, ltb-true}
 use Rattle.numbers.specs.Fits.{All}
 use Rattle.values.specs.Values.{is_empty, is_digit, all_digits, value_from, is_number, number_of}
 use Rattle.values.proofs.Tests.{both}

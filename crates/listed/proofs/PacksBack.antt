@@ -2,18 +2,18 @@
 use mathlib.Core.Path.{◌≡◌, refl, sym, ap, ◌∙◌}
 use mathlib.Core.List.{List, [], ◌∷◌, ◌++◌, map, append_assoc}
 use Prim.Native.Nat.{ℕ, suc, ◌*◌, ◌≤◌}
-use native.Mathlib.Omega.{arith}
 use lib.ListN.{length, drop, length-map}
 use borrow.Author.Tests.{le-ltb}
+use Rattle.std.specs.Prelude.{Ok}
 use Rattle.numbers.specs.Fits.{All, IsByte}
 use Rattle.records.specs.Records as records
 use Rattle.records.specs.Limits.{record_bytes}
 use Rattle.records.specs.Bytes.{all_bytes}
 use Rattle.records.specs.Held.{Held, plain}
 use Rattle.records.specs.declared.Record.{Record}
-use Rattle.rules.proofs.Passed.{Passed, passed}
+use Rattle.rules.proofs.Passed.{passed}
 use Rattle.plan.specs.APlan.{records_of}
-use Rattle.plan.specs.ReplyNumbers.{after, number_of, first_bad, first_bad_with, check_of, read_of}
+use Rattle.plan.specs.ReplyNumbers.{after, number_of, first_bad, first_bad_with, check_of, read_of, number_in, plan_in}
 use Rattle.plan.specs.declared.Refusal.{Refusal}
 use Rattle.plan.proofs.Entries as Entries
 use Rattle.plan.proofs.Accepted.{none_refused}
@@ -23,7 +23,7 @@ use Rattle.sayings.specs.declared.Said.{Said}
 use Rattle.sayings.specs.declared.Said.TheVariants.{Plan}
 use Rattle.lines.specs.Text.{piece_text, more_text}
 use Rattle.phrases.specs.Phrases.{cut, filled, uncommented, without_crs}
-use Rattle.listing.specs.Listing.{outcome, outcome_of, lines_of, good, line_row, row_of, listed, all_said, packed, written, answer, answer_of, buffer_of}
+use Rattle.listing.specs.Listing.{outcome, outcome_of, lines_of, good, line_row, row_of, listed, all_said, packed, written, answer_of, buffer_of}
 use Rattle.listed.specs.Listed.{record_text, listing_of, PacksBack}
 use Rattle.listed.proofs.Typing.{words_typed, line_unbroken, line_first}
 use Rattle.listed.proofs.Rowing.{Line, line_of}
@@ -60,26 +60,26 @@ unfolding all_said all_bytes
 said_bytes [] = refl
 said_bytes (r ∷ rs) = rw (said_bytes rs)
 
-module _ (s : List ℕ) (b : All IsByte s) (e : (read_of s).number ≡ 0) where
+module _ (s : List ℕ) (b : All IsByte s) (e : number_in (read_of s) ≡ 0) where
   abbrev rs : List Record
-  rs = records_of (read_of s).plan
+  rs = records_of (plan_in (read_of s))
 
   abbrev xs : List Said
   xs = map (λ (r : Record). Plan r) rs
 
-  sound : (check_of (read_of s).plan).number ≡ 0
+  sound : (check_of (plan_in (read_of s))).number ≡ 0
   sound = rw (read_is_checked s e)
 
   says : outcome_of (listing_of rs) ≡ listed xs
-  says = rows_said rs (all_lines [] rs (records_held (read_of s).plan (read_held s b)) (none_refused (read_of s).plan sound)) 1
+  says = rows_said rs (all_lines [] rs (records_held (plan_in (read_of s)) (read_held s b)) (none_refused (plan_in (read_of s)) sound)) 1
 
   long : record_bytes * length xs ≡ length s
   long =
-      rw (length-map, length_records (read_of s).plan (read_held s b) (checked_count (read_of s).plan sound).1)
+      rw (length-map, length_records (plan_in (read_of s)) (read_held s b) (checked_count (plan_in (read_of s)) sound).1)
       (read_length s e)
 
   module _ (out : List ℕ) (room : length s ≤ length out) where
-    answers : answer_of (listing_of rs) out ≡ answer 0 0 (length s)
+    answers : answer_of (listing_of rs) out ≡ Ok (length s)
     answers = ap (packed (length out)) says ∙ rw (long, le-ltb (length out) (length s) room)
 
     writes : buffer_of (listing_of rs) out ≡ s ++ drop (length s) out

@@ -1,16 +1,15 @@
 -- The line of a record says that record. Assumes nothing.
-use mathlib.Core.Path.{◌≡◌, refl, sym, ap, ◌∙◌}
-use mathlib.Core.Bool.{Bool, true, false, not, ◌&&◌}
+use mathlib.Core.Path.{◌≡◌, refl, sym, ap}
+use mathlib.Core.Bool.{true}
 use mathlib.Core.List.{List, [], ◌∷◌, map}
 use Prim.Native.Nat.{ℕ, ◌^◌, ◌<◌}
 use native.Mathlib.Omega.{arith}
 use lib.Dec.{eqb}
 use lib.IntN.{ℤ, pos, negsuc}
 use lib.Signed.{mag}
-use borrow.Author.Tests.{eqb-true, ne_eqb}
-use Rattle.std.specs.Prelude.{if◌then◌else◌}
+use borrow.Author.Tests.{eqb-true}
 use Rattle.numbers.specs.Numbers.{is_nought}
-use Rattle.numbers.specs.Fits.{All, IsByte}
+use Rattle.numbers.specs.Fits.{All}
 use Rattle.records.specs.Records as records
 use Rattle.records.specs.Records.{Kind, point, link, ordinary, wait, unknown}
 use Rattle.records.specs.Held.{Held}
@@ -21,7 +20,7 @@ use Rattle.values.specs.Values as values
 use Rattle.values.specs.Values.{same, number_of}
 use Rattle.values.proofs.Tests.{both}
 use Rattle.phrases.specs.Phrases.{kind_of, value_of}
-use Rattle.sayings.specs.Sayings.{a_point, a_number, a_count, expected, holds, first_wrong, point_record, link_record, ordinary_record, wait_record, said_by, row_of, Row, good}
+use Rattle.sayings.specs.Sayings.{a_point, a_number, a_count, expected, holds, first_wrong, point_record, link_record, ordinary_record, wait_record, said_by, row_of, good}
 use Rattle.sayings.specs.declared.Said.TheVariants.{Plan}
 use Rattle.lines.specs.Text.{spelled, letters, decimal, piece_text, text_of}
 use Rattle.lines.specs.declared.Piece.{Piece}
@@ -29,7 +28,7 @@ use Rattle.lines.specs.declared.Piece.TheVariants.{Name, Number}
 use Rattle.text.specs.Words.{point_word, ordinary_word, wait_word}
 use Rattle.text.specs.Lines.{signed_piece}
 use Rattle.listed.specs.Listed.{link_word, record_text}
-use Rattle.listed.proofs.Decimal.{Solid, decimal_below, decimal_some, decimal_solid, signed_number, signed_solid, signed_some}
+use Rattle.listed.proofs.Decimal.{decimal_below, decimal_some, decimal_solid, signed_number, signed_solid, signed_some}
 use Rattle.listed.proofs.Typing.{Typed}
 
 -- ---- words

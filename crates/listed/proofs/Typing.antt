@@ -1,15 +1,13 @@
 -- Lines that are typed from pieces, read again: their words are the pieces' texts, and a line ends where it was ended. Assumes nothing.
-use mathlib.Core.Path.{◌≡◌, refl, sym, ap, ◌∙◌}
-use mathlib.Core.Bool.{Bool, true, false}
+use mathlib.Core.Path.{◌≡◌, refl, ap}
+use mathlib.Core.Bool.{false}
 use mathlib.Core.List.{List, [], ◌∷◌, ◌++◌, map, append-nil}
-use Prim.Native.Nat.{ℕ, ◌≤◌}
+use Prim.Native.Nat.{ℕ}
 use native.Mathlib.Omega.{arith}
-use lib.Dec.{eqb}
 use borrow.Author.Tests.{ne_eqb}
-use Rattle.std.specs.Prelude.{if◌then◌else◌}
 use Rattle.numbers.specs.Fits.{All}
 use Rattle.values.specs.Values.{is_empty}
-use Rattle.phrases.specs.Phrases.{is_lf, is_cr, is_blank, is_hash, in_first, cut, filled, begins_lf, without_crs, lines_of, uncommented, words_of}
+use Rattle.phrases.specs.Phrases.{is_lf, is_blank, cut, filled, without_crs, lines_of, uncommented, words_of}
 use Rattle.lines.specs.Text.{piece_text, more_text}
 use Rattle.lines.specs.declared.Piece.{Piece}
 use Rattle.listed.proofs.Decimal.{Solid}

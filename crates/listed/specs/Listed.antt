@@ -1,17 +1,17 @@
 -- A plan file as a listing: one line for each record, in file order, as `listing` takes it. Numbers are decimal without zeros in front.
 -- Assumes nothing.
-use Rattle.std.specs.Prelude.{◌≡◌, List, [], ◌∷◌, ◌++◌, ℕ, ◌≤◌, length, drop, if◌then◌else◌}
+use Rattle.std.specs.Prelude.{◌≡◌, Ok, List, [], ◌∷◌, ◌++◌, ℕ, ◌≤◌, length, drop, if◌then◌else◌}
 use Rattle.numbers.specs.Fits.{All, IsByte}
 use Rattle.records.specs.Records.{point, link, ordinary, wait, is}
 use Rattle.records.specs.declared.Record.{Record}
 use Rattle.plan.specs.APlan.{records_of}
-use Rattle.plan.specs.ReplyNumbers.{read_of}
+use Rattle.plan.specs.ReplyNumbers.{read_of, number_in, plan_in}
 use Rattle.lines.specs.Text.{line_of, text_of}
 use Rattle.lines.specs.declared.Line.{Line}
 use Rattle.lines.specs.declared.Piece.TheVariants.{Name, Number}
 use Rattle.text.specs.Words.{point_word, ordinary_word, wait_word}
 use Rattle.text.specs.Lines.{signed_piece}
-use Rattle.listing.specs.Listing.{answer_of, buffer_of, answer}
+use Rattle.listing.specs.Listing.{answer_of, buffer_of}
 
 abbrev pub link_word : ℕ
 link_word = 0x6b6e696c
@@ -58,6 +58,6 @@ listing_of (r ∷ rs) = record_text r ++ listing_of rs
 -- file's, where there is room for them.
 abbrev pub PacksBack : Type 0
 PacksBack =
-    (s out : List ℕ) → All IsByte s → (read_of s).number ≡ 0 → length s ≤ length out
-    → (answer_of (listing_of (records_of (read_of s).plan)) out ≡ answer 0 0 (length s))
-    × (buffer_of (listing_of (records_of (read_of s).plan)) out ≡ s ++ drop (length s) out)
+    (s out : List ℕ) → All IsByte s → number_in (read_of s) ≡ 0 → length s ≤ length out
+    → (answer_of (listing_of (records_of (plan_in (read_of s)))) out ≡ Ok (length s))
+    × (buffer_of (listing_of (records_of (plan_in (read_of s)))) out ≡ s ++ drop (length s) out)

@@ -27,7 +27,7 @@ fn link_line(r: Record) -> Line
     let x = signed(r.first);
     let y = signed(r.second);
     let c = Piece::Number(r.b as u64);
-    line_of(Piece::Name(LINK_WORD), [a, x, y, c], 4)
+    line_of(Piece::Name(LINK_WORD), &[a, x, y, c])
 }
 
 // `ordinary X D Y`, `wait V C W`, or no line where the record is neither.
@@ -37,12 +37,11 @@ fn other_line(r: Record) -> Line
     let a = Piece::Number(r.a as u64);
     let b = Piece::Number(r.b as u64);
     let d = signed(r.first);
-    let none = Piece::Name(0);
     if r.kind == ORDINARY {
-        return line_of(Piece::Name(ORDINARY_WORD), [a, d, b, none], 3);
+        return line_of(Piece::Name(ORDINARY_WORD), &[a, d, b]);
     }
     if r.kind == WAIT {
-        return line_of(Piece::Name(WAIT_WORD), [a, b, d, none], 3);
+        return line_of(Piece::Name(WAIT_WORD), &[a, b, d]);
     }
     blank()
 }

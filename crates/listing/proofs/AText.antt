@@ -6,6 +6,7 @@ use mathlib.Core.List.{List, [], ◌∷◌}
 use Prim.Native.Nat.{ℕ}
 use Prim.Native.String.{String}
 use lib.Dec.{eqb}
+use Rattle.std.specs.Prelude.{Result, Ok, Err}
 use Rattle.values.specs.Ascii.{ascii}
 use Rattle.values.specs.Values as values
 use Rattle.values.specs.Values.{same, all_digits, value_from, is_negative, unsigned}
@@ -14,7 +15,7 @@ use Rattle.phrases.specs.Phrases.{cut, filled, without_crs, begins_lf, uncomment
 use Rattle.records.specs.Bytes.{bytes_of}
 use Rattle.sayings.specs.Sayings.{expected, holds, first_wrong, said_by, row_of}
 use Rattle.listing.specs.Listing.{outcome, outcome_of, all_said, packed, written}
-use Rattle.listing.specs.declared.Packed.{Packed}
+use Rattle.listing.specs.declared.Refused.{Refused}
 
 infix 70 ◌gives◌at◌long◌
 -- a text, a number, a line and a length
@@ -26,9 +27,11 @@ unless_right : Bool → Case → List Case → List Case
 unless_right true c cs = cs
 unless_right false c cs = c ∷ cs
 
-answered : String → ℕ → ℕ → ℕ → Packed → List Case → List Case
+-- what is answered: 0 at no line where it is a length
+answered : String → ℕ → ℕ → ℕ → Result ℕ Refused → List Case → List Case
 unfolding unless_right
-answered t n l m x cs = unless_right (eqb x.number n && (eqb x.line l && eqb x.length m)) (t gives x.number at x.line long x.length) cs
+answered t n l m (Ok x) cs = unless_right (eqb 0 n && (eqb 0 l && eqb x m)) (t gives 0 at 0 long x) cs
+answered t n l m (Err x) cs = unless_right (eqb x.number n && (eqb x.line l && eqb 0 m)) (t gives x.number at x.line long 0) cs
 
 -- the rows that are wrong, with what is right
 wrong : List Case → List Case

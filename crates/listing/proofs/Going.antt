@@ -1,64 +1,51 @@
 -- The loops over the lines: what holds between two of them, that it holds at the start, that a line more keeps it, and what it gives
 -- at a bad line and at the text's end. Assumes nothing.
 use mathlib.Core.Path.{◌≡◌, refl, sym, ap, ◌∙◌}
-use mathlib.Core.Bool.{Bool, true, false, not}
 use mathlib.Core.List.{List, [], ◌∷◌, ◌++◌, append-nil, append_assoc}
-use Prim.Native.Nat.{ℕ, zero, suc, ◌+◌, ◌*◌, ◌≤◌, ◌<◌}
+use Prim.Native.Nat.{ℕ, suc, ◌+◌, ◌*◌, ◌≤◌, ◌<◌}
 use native.Mathlib.Omega.{arith}
 use native.Mathlib.Numerals.{add-one}
-use lib.Dec.{eqb, ltb}
 use lib.ListN.{length, take, drop, length-append, length-drop, drop_of_length-le}
 use lib.Seq.{paste, drop-length, drop-drop, take_all, take_at, drop-append-add}
-use borrow.Author.Tests.{eqb-false, lt-ltb, le-ltb}
-use Rattle.std.specs.Prelude.{if◌then◌else◌}
+use borrow.Author.Tests.{le-ltb}
+use Rattle.std.specs.Prelude.{Result, Ok, Err}
+use Rattle.std.specs.Result.{IsOkAnd}
 use Rattle.records.specs.Limits.{record_bytes}
 use Rattle.records.specs.Bytes.{bytes_of}
-use Rattle.phrases.specs.Phrases.{cut, filled, without_crs, uncommented, lines_of, words_of}
+use Rattle.phrases.specs.Phrases.{cut, filled, without_crs, uncommented, lines_of}
 use Rattle.phrases.specs.Inside.{line_end, first_line}
 use Rattle.phrases.proofs.Lines.{Left, none, more, left_of, end_moves, end_within}
-use Rattle.sayings.specs.Sayings.{Row, bad, good, unless_wrong, expected, first_wrong, said_by, kind_of, row_of}
+use Rattle.sayings.specs.Sayings.{Row, bad, good, row_of}
 use Rattle.sayings.specs.Inside.{as_told}
 use Rattle.sayings.specs.declared.Said.{Said}
 use Rattle.sayings.specs.declared.Said.TheVariants.{Nothing, Plan, Mark, Event}
-use Rattle.listing.specs.Listing.{line_row, bytes_said, Outcome, refused, listed, in_front, behind, outcome, outcome_of, all_said, answer, packed, written, a_longer_buffer}
+use Rattle.listing.specs.Listing.{line_row, bytes_said, Outcome, refused, listed, in_front, behind, outcome, outcome_of, all_said, refusal, written}
 use Rattle.listing.specs.Inside.{line_at, one_if, scanned, put_of}
 use Rattle.listing.specs.declared.Line.{Line}
-use Rattle.listing.specs.declared.Gone.{Gone}
 
--- ---- numbers of bad lines
+-- ---- what a result is
 
-unless_bad : (n : ℕ) (x : Said) (k : ℕ) → unless_wrong n x ≡ bad k → 1 ≤ k
-unless_bad n x k e = go (eqb n 0) refl e
-  where
-    code : Row → ℕ
-    code (bad m) = suc m
-    code (good y) = 0
+module _ {A B : Type 0} where
+  pub ok_not_err : {x : A} {y : B} → Ok x ≡ Err y → ⊥
+  ok_not_err e = absurd (let z : ◌≡◌ {A = ℕ} 0 1 = ap code e in omega arith)
+    where
+      code : Result A B → ℕ
+      code (Ok x) = 0
+      code (Err y) = 1
 
-    go : (t : Bool) → eqb n 0 ≡ t → (if t then good x else bad n) ≡ bad k → 1 ≤ k
-    go true q h = absurd (let z : ◌≡◌ {A = ℕ} 0 (suc k) = ap code h in omega arith)
-    go false q h =
-        let z : ◌≡◌ {A = ℕ} (suc n) (suc k) = ap code h in
-        let y = eqb-false n 0 q in
-        go_on n k y (omega arith)
-      where
-        go_on : (n k : ℕ) → (n ≡ 0 → ⊥) → n ≡ k → 1 ≤ k
-        go_on n zero y e = absurd (y e)
-        go_on n (suc k) y e = omega arith
+  pub ok_is : {x y : A} → ◌≡◌ {A = Result A B} (Ok x) (Ok y) → x ≡ y
+  ok_is {x} e = ap value e
+    where
+      value : Result A B → A
+      value (Ok z) = z
+      value (Err z) = x
 
--- a bad line has a number
-pub bad_some : (fs : List (List ℕ)) (k : ℕ) → row_of fs ≡ bad k → 1 ≤ k
-unfolding row_of
-bad_some [] k e = absurd (let z : ◌≡◌ {A = ℕ} 0 1 = cc in omega arith)
-bad_some (f ∷ fs) k e = go (eqb (kind_of f) 0) (eqb (length fs) (length (expected (kind_of f)))) e
-  where
-    code : Row → ℕ
-    code (bad m) = m
-    code (good y) = 0
-
-    go : (s t : Bool) → (if s then bad 1 else (if not t then bad 2 else unless_wrong (first_wrong (expected (kind_of f)) fs) (said_by (kind_of f) fs))) ≡ bad k → 1 ≤ k
-    go true t h = let z : 1 ≡ k = ap code h in omega arith
-    go false false h = let z : 2 ≡ k = ap code h in omega arith
-    go false true h = unless_bad (first_wrong (expected (kind_of f)) fs) (said_by (kind_of f) fs) k h
+  pub err_is : {x y : B} → ◌≡◌ {A = Result A B} (Err x) (Err y) → x ≡ y
+  err_is {x} e = ap value e
+    where
+      value : Result A B → B
+      value (Ok z) = x
+      value (Err z) = z
 
 -- ---- the outcome, line by line
 
@@ -134,22 +121,24 @@ module _ (text : List ℕ) (at lines : ℕ) (xs : List Said) (g : Goes text at l
     first : outcome_of text ≡ before xs (behind (lines + 1) (line_row (first_line s)) behind_it)
     first = g.rest ∙ ap (before xs) (outcome_first (lines + 1) s)
 
+    row : l.said ≡ as_told (line_row (first_line s))
+    row = ap (λ (m : Line). m.said) e
+
     -- a line that is not good: its number, and the line
-    pub goes_bad : (l.number ≡ 0 → ⊥) → ◌≡◌ {A = Gone} (record { number = l.number; line = lines + 1; records = 0 }) (scanned (outcome_of text))
-    goes_bad n = go (line_row (first_line s)) (ap (λ (m : Line). m.number) e) first
+    pub goes_bad : (k : ℕ) → l.said ≡ Err k → refusal k (lines + 1) ≡ scanned (outcome_of text)
+    goes_bad k n = go (line_row (first_line s)) (sym n ∙ row) first
       where
-        go : (r : Row) → l.number ≡ (as_told r).number → outcome_of text ≡ before xs (behind (lines + 1) r behind_it)
-            → ◌≡◌ {A = Gone} (record { number = l.number; line = lines + 1; records = 0 }) (scanned (outcome_of text))
-        go (bad k) p f = rw (p, f)
-        go (good x) p f = absurd (n p)
+        go : (r : Row) → Err k ≡ as_told r → outcome_of text ≡ before xs (behind (lines + 1) r behind_it) → refusal k (lines + 1) ≡ scanned (outcome_of text)
+        go (bad i) p f = rw (f, err_is p)
+        go (good x) p f = absurd (ok_not_err (sym p))
 
     -- a good one: what it says comes behind xs
-    pub record More : Type 0 where
+    pub record More (x : Said) : Type 0 where
       pub past : at < l.next
-      pub next : Goes text l.next (lines + 1) (xs ++ in_front l.said [])
+      pub next : Goes text l.next (lines + 1) (xs ++ in_front x [])
 
-    pub goes_more : l.number ≡ 0 → More
-    goes_more z = go (line_row (first_line s)) refl (ap (λ (m : Line). m.number) e) (ap (λ (m : Line). m.said) e) first
+    pub goes_more : (x : Said) → l.said ≡ Ok x → More x
+    goes_more y z = go (line_row (first_line s)) (sym z ∙ row) first
       where
         end : l.next ≡ at + line_end 0 s
         end = ap (λ (m : Line). m.next) e ∙ end_moves at s
@@ -157,10 +146,9 @@ module _ (text : List ℕ) (at lines : ℕ) (xs : List Said) (g : Goes text at l
         d : drop (line_end 0 s) s ≡ drop l.next text
         d = rw end (drop-drop (line_end 0 s) at text)
 
-        go : (r : Row) → line_row (first_line s) ≡ r → l.number ≡ (as_told r).number → l.said ≡ (as_told r).said
-            → outcome_of text ≡ before xs (behind (lines + 1) r behind_it) → More
-        go (bad k) y p q f = let b = bad_some (words_of (first_line s)) k y in absurd (omega arith)
-        go (good x) y p q f =
+        go : (r : Row) → Ok y ≡ as_told r → outcome_of text ≡ before xs (behind (lines + 1) r behind_it) → More y
+        go (bad k) q f = absurd (ok_not_err q)
+        go (good x) q f =
             let w = end_within s in
             let ls = length-drop at text in
             let one : 1 ≤ line_end 0 s = w.1 (omega arith) in
@@ -173,7 +161,7 @@ module _ (text : List ℕ) (at lines : ℕ) (xs : List Said) (g : Goes text at l
             rw (add-one (lines + 1), ← d) (f ∙ before_good xs (lines + 1) x behind_it) in
             record {
               past = omega (arith, end);
-              next = rw q (record { rest = k; within = omega (arith, end, w.0); low = omega (arith, end); few = omega arith });
+              next = rw (ok_is q) (record { rest = k; within = omega (arith, end, w.0); low = omega (arith, end); few = omega arith });
             }
           where
             one_le : (x : Said) → one_if x ≤ 1
@@ -193,60 +181,44 @@ pub counted_start : (text : List ℕ) → Counted text 0 0 0
 counted_start text = record { done = []; goes = goes_start text; count = refl }
 
 module _ (text : List ℕ) (at lines records : ℕ) (c : Counted text at lines records) where
-  pub counted_end : length text ≤ at → ◌≡◌ {A = Gone} (record { number = 0; line = 0; records = records }) (scanned (outcome_of text))
+  pub counted_end : length text ≤ at → Ok records ≡ scanned (outcome_of text)
   counted_end h = rw (goes_end text at lines c.done c.goes h, c.count)
 
   module _ (h : at < length text) (l : Line) (e : l ≡ line_at at (drop at text)) where
-    pub counted_bad : (l.number ≡ 0 → ⊥) → ◌≡◌ {A = Gone} (record { number = l.number; line = lines + 1; records = 0 }) (scanned (outcome_of text))
-    counted_bad n = goes_bad text at lines c.done c.goes h l e n
+    pub counted_bad : (k : ℕ) → l.said ≡ Err k → refusal k (lines + 1) ≡ scanned (outcome_of text)
+    counted_bad k n = goes_bad text at lines c.done c.goes h l e k n
 
     pub record CountedMore (m : ℕ) : Type 0 where
       pub past : at < l.next
       pub next : Counted text l.next (lines + 1) (records + m)
 
-    pub counted_more : l.number ≡ 0 → (m : ℕ) → m ≡ one_if l.said → CountedMore m
-    counted_more z m q =
-        let g = goes_more text at lines c.done c.goes h l e z in
+    pub counted_more : (x : Said) → l.said ≡ Ok x → (m : ℕ) → m ≡ one_if x → CountedMore m
+    counted_more x z m q =
+        let g = goes_more text at lines c.done c.goes h l e x z in
         record {
           past = g.past;
           next =
               record {
-                done = c.done ++ in_front l.said [];
+                done = c.done ++ in_front x [];
                 goes = g.next;
-                count = rw (length-append c.done (in_front l.said []), one_length l.said, q, c.count);
+                count = rw (length-append c.done (in_front x []), one_length x, q, c.count);
               };
         }
 
 -- ---- writing
 
--- a refusal has a number
-refused_some : (n : ℕ) (ls : List (List ℕ)) (k m : ℕ) → outcome n ls ≡ refused k m → 1 ≤ k
-refused_some n [] k m e = absurd (let z : listed [] ≡ refused k m = sym (outcome_end n) ∙ e in let y : ◌≡◌ {A = ℕ} 0 1 = cc in omega arith)
-refused_some n (l ∷ ls) k m e = go (line_row l) refl (outcome (suc n) ls) refl (sym (outcome_by n l ls) ∙ e) (λ q. refused_some (suc n) ls k m q)
-  where
-    code : Outcome → ℕ
-    code (refused i j) = i
-    code (listed xs) = 0
-
-    go : (r : Row) → line_row l ≡ r → (o : Outcome) → outcome (suc n) ls ≡ o → behind n r o ≡ refused k m → (outcome (suc n) ls ≡ refused k m → 1 ≤ k) → 1 ≤ k
-    go (bad i) p o q h f =
-        let z : i ≡ k = ap code h in
-        let b = bad_some (words_of l) i p in
-        omega arith
-    go (good x) p (refused i j) q h f = f (q ∙ h)
-    go (good x) p (listed xs) q h f = absurd (let y : ◌≡◌ {A = ℕ} 0 1 = cc in omega arith)
-
--- a text without a bad line says something
-pub record Whole (text : List ℕ) : Type 0 where
+-- a text without a bad line says something, for which there is room
+pub record Whole (text out : List ℕ) : Type 0 where
   pub all : List Said
   pub says : outcome_of text ≡ listed all
+  pub room : record_bytes * length all ≤ length out
 
-pub whole_of : (text : List ℕ) → (scanned (outcome_of text)).number ≡ 0 → Whole text
-whole_of text z = go (outcome_of text) refl z
+whole_of : (text out : List ℕ) → IsOkAnd (scanned (outcome_of text)) (λ n. record_bytes * n ≤ length out) → Whole text out
+whole_of text out z = go (outcome_of text) refl z
   where
-    go : (o : Outcome) → outcome_of text ≡ o → (scanned o).number ≡ 0 → Whole text
-    go (refused k n) e q = let s = refused_some 1 (lines_of text) k n e in absurd (omega arith)
-    go (listed xs) e q = record { all = xs; says = e }
+    go : (o : Outcome) → outcome_of text ≡ o → IsOkAnd (scanned o) (λ n. record_bytes * n ≤ length out) → Whole text out
+    go (refused k n) e q = absurd q
+    go (listed xs) e q = record { all = xs; says = e; room = q }
 
 all_append_said : (xs ys : List Said) → all_said (xs ++ ys) ≡ all_said xs ++ all_said ys
 unfolding all_said
@@ -329,23 +301,20 @@ pub record Wrote (text out₀ out : List ℕ) (to at : ℕ) : Type 0 where
   pub done : List Said
   pub lines : ℕ
   pub goes : Goes text at lines done
-  pub whole : Whole text
-  pub room : record_bytes * length whole.all ≤ length out₀
+  pub whole : Whole text out₀
   pub size : length (all_said done) ≡ record_bytes * length done
   pub place : to ≡ record_bytes * length done
   pub bytes : out ≡ buffer_of done out₀
   pub same : length out ≡ length out₀
 
-pub wrote_start : (text out : List ℕ) → (scanned (outcome_of text)).number ≡ 0 → record_bytes * (scanned (outcome_of text)).records ≤ length out → Wrote text out out 0 0
+pub wrote_start : (text out : List ℕ) → IsOkAnd (scanned (outcome_of text)) (λ n. record_bytes * n ≤ length out) → Wrote text out out 0 0
 unfolding all_said
-wrote_start text out z r =
-    let w = whole_of text z in
+wrote_start text out z =
     record {
       done = [];
       lines = 0;
       goes = goes_start text;
-      whole = w;
-      room = rw w.says at r;
+      whole = whole_of text out z;
       size = refl;
       place = refl;
       bytes = refl;
@@ -357,7 +326,7 @@ module _ (text out₀ out : List ℕ) (to at : ℕ) (w : Wrote text out₀ out t
   wrote_end h =
       let e = goes_end text at w.lines w.done w.goes h in
       let k : length w.whole.all ≡ length w.done = ap count (sym w.whole.says ∙ e) in
-      let r = w.room in
+      let r = w.whole.room in
       w.bytes ∙ rw (e, le-ltb (length out₀) (record_bytes * length w.done) (omega arith))
     where
       count : Outcome → ℕ
@@ -365,25 +334,22 @@ module _ (text out₀ out : List ℕ) (to at : ℕ) (w : Wrote text out₀ out t
       count (listed zs) = length zs
 
   module _ (h : at < length text) (l : Line) (e : l ≡ line_at at (drop at text)) where
-    zero_number : l.number ≡ 0
-    zero_number = go (line_row (first_line (drop at text))) (ap (λ (m : Line). m.number) e) (sym w.whole.says ∙ first text at w.lines w.done w.goes h l e)
-      where
-        go : (r : Row) → l.number ≡ (as_told r).number → listed w.whole.all ≡ before w.done (behind (w.lines + 1) r (behind_it text at w.lines w.done w.goes h l e)) → l.number ≡ 0
-        go (bad k) p q = absurd (let y : ◌≡◌ {A = ℕ} 0 1 = cc in omega arith)
-        go (good x) p q = p
+    -- no line of it is bad
+    pub none_bad : (k : ℕ) → l.said ≡ Err k → ⊥
+    none_bad k n = ok_not_err (sym (goes_bad text at w.lines w.done w.goes h l e k n ∙ ap scanned w.whole.says))
 
-    pub record WroteMore : Type 0 where
+    pub record WroteMore (x : Said) : Type 0 where
       pub past : at < l.next
-      pub fits : to + record_bytes * one_if l.said ≤ length out
-      pub next : (o : List ℕ) → o ≡ put_of out to l.said → length o ≡ length out → (m : ℕ) → m ≡ one_if l.said → Wrote text out₀ o (to + record_bytes * m) l.next
+      pub fits : to + record_bytes * one_if x ≤ length out
+      pub next : (o : List ℕ) → o ≡ put_of out to x → length o ≡ length out → (m : ℕ) → m ≡ one_if x → Wrote text out₀ o (to + record_bytes * m) l.next
 
-    pub wrote_more : WroteMore
-    wrote_more =
-        let g = goes_more text at w.lines w.done w.goes h l e zero_number in
-        let f = front_of (w.done ++ in_front l.said []) (outcome (w.lines + 1 + 1) (lines_of (drop l.next text))) w.whole.all (sym w.whole.says ∙ g.next.rest) in
-        let n = length-append w.done (in_front l.said []) in
-        let o1 = one_length l.said in
-        let r = w.room in
+    pub wrote_more : (x : Said) → l.said ≡ Ok x → WroteMore x
+    wrote_more x z =
+        let g = goes_more text at w.lines w.done w.goes h l e x z in
+        let f = front_of (w.done ++ in_front x []) (outcome (w.lines + 1 + 1) (lines_of (drop l.next text))) w.whole.all (sym w.whole.says ∙ g.next.rest) in
+        let n = length-append w.done (in_front x []) in
+        let o1 = one_length x in
+        let r = w.whole.room in
         let p = w.place in
         let s = w.same in
         record {
@@ -391,41 +357,13 @@ module _ (text out₀ out : List ℕ) (to at : ℕ) (w : Wrote text out₀ out t
           fits = omega arith;
           next = λ o q v m i.
               record {
-                done = w.done ++ in_front l.said [];
+                done = w.done ++ in_front x [];
                 lines = w.lines + 1;
                 goes = g.next;
                 whole = w.whole;
-                room = w.room;
-                size = sizes w.done l.said w.size;
+                size = sizes w.done x w.size;
                 place = omega arith;
-                bytes = q ∙ rw (w.bytes, w.place) (put_next w.done l.said out₀ w.size);
+                bytes = q ∙ rw (w.bytes, w.place) (put_next w.done x out₀ w.size);
                 same = v ∙ w.same;
               };
         }
-
--- ---- packing
-
-module _ (text out : List ℕ) (g : Gone) (e : g ≡ scanned (outcome_of text)) where
-  pub pack_bad : (g.number ≡ 0 → ⊥) → (answer g.number g.line 0 ≡ packed (length out) (outcome_of text)) × (out ≡ written out (outcome_of text))
-  pack_bad n = go (outcome_of text) e
-    where
-      go : (o : Outcome) → g ≡ scanned o → (answer g.number g.line 0 ≡ packed (length out) o) × (out ≡ written out o)
-      go (refused k m) q = (rw q, refl)
-      go (listed xs) q = absurd (n (ap (λ (x : Gone). x.number) q))
-
-  module _ (z : g.number ≡ 0) where
-    whole : Whole text
-    whole = whole_of text (sym (ap (λ (x : Gone). x.number) e) ∙ z)
-
-    records_are : g.records ≡ length whole.all
-    records_are = ap (λ (x : Gone). x.records) e ∙ ap (λ (o : Outcome). (scanned o).records) whole.says
-
-    pub pack_short : length out < record_bytes * g.records → (answer a_longer_buffer 0 0 ≡ packed (length out) (outcome_of text)) × (out ≡ written out (outcome_of text))
-    pack_short h =
-        let l : ltb (length out) (record_bytes * length whole.all) ≡ true = lt-ltb (length out) (record_bytes * length whole.all) (rw records_are at h) in
-        (rw (whole.says, l), rw (whole.says, l))
-
-    pub pack_good : record_bytes * g.records ≤ length out → answer 0 0 (record_bytes * g.records) ≡ packed (length out) (outcome_of text)
-    pack_good h =
-        let l : ltb (length out) (record_bytes * length whole.all) ≡ false = le-ltb (length out) (record_bytes * length whole.all) (rw records_are at h) in
-        rw (records_are, whole.says, l)

@@ -2,6 +2,5 @@
 mod AText
 mod Wording
 mod Going
-mod Putting
 pub mod Theorems
 pub mod Typed

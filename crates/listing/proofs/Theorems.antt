@@ -7,12 +7,13 @@ use native.Mathlib.Omega.{arith}
 use lib.Dec.{eqb}
 use lib.ListN.{length, get_or}
 use borrow.Author.Tests.{ne_eqb}
-use Rattle.std.specs.Prelude.{if◌then◌else◌}
+use Rattle.std.specs.Prelude.{Ok, Err, if◌then◌else◌}
 use Rattle.sayings.specs.Sayings.{kind_of, expected, first_wrong, said_by, row_of}
 use Rattle.sayings.specs.declared.Said.{Said}
 use Rattle.sayings.specs.declared.Said.TheVariants.{Nothing}
 use Rattle.listing.specs.Listing.{lines_of, words_of, Row, bad, good, line_row, Outcome, refused, listed, in_front, behind, outcome, outcome_of, is_short, packed, written, a_set}
-use Rattle.listing.proofs.Going.{bad_some, outcome_by, outcome_end}
+use Rattle.listing.specs.declared.Refused.{Refused}
+use Rattle.listing.proofs.Going.{outcome_by, outcome_end, ok_not_err, err_is}
 use Rattle.listing.specs.Promised.{worded, Packs, OneForEachLine, NothingUnlessGood, IsGood, Stops, FirstBadLine}
 
 pub no : {A : Type 0} → ◌≡◌ {A = ℕ} 0 1 → A
@@ -149,18 +150,14 @@ outcome_refused n (l ∷ ls) k m e =
 -- ---- the theorems
 
 pub one_for_each_line : OneForEachLine
-unfolding number_of
-one_for_each_line text out z = go (outcome_of text) refl z
+one_for_each_line text out n z = go (outcome_of text) refl z
   where
-    go : (o : Outcome) → outcome_of text ≡ o → (packed (length out) o).number ≡ 0 → Packs text out
-    go (refused k m) e q = absurd (let b = outcome_refused 1 (lines_of text) k m e in never k b q)
-      where
-        never : (k : ℕ) → Bad 1 (lines_of text) k m → k ≡ 0 → ⊥
-        never k b q = omega (arith, bad_some (words_of (get_or (lines_of text) b.j [])) k b.here)
+    go : (o : Outcome) → outcome_of text ≡ o → packed (length out) o ≡ Ok n → Packs text out
+    go (refused k m) e q = absurd (ok_not_err (sym q))
     go (listed xs) e q = short (is_short (length out) xs) refl q
       where
-        short : (t : Bool) → is_short (length out) xs ≡ t → (packed (length out) (listed xs)).number ≡ 0 → Packs text out
-        short true s h = absurd (let y : ◌≡◌ {A = ℕ} 8 0 = rw s at h in omega arith)
+        short : (t : Bool) → is_short (length out) xs ≡ t → packed (length out) (listed xs) ≡ Ok n → Packs text out
+        short true s h = absurd (ok_not_err (sym (rw s at h)))
         short false s h =
             record {
               said = xs;
@@ -170,29 +167,30 @@ one_for_each_line text out z = go (outcome_of text) refl z
             }
 
 pub nothing_unless_good : NothingUnlessGood
-nothing_unless_good text out n = go (outcome_of text) n
+nothing_unless_good text out r n = go (outcome_of text) n
   where
-    go : (o : Outcome) → ((packed (length out) o).number ≡ 0 → ⊥) → written out o ≡ out
+    go : (o : Outcome) → packed (length out) o ≡ Err r → written out o ≡ out
     go (refused k m) h = refl
     go (listed xs) h = short (is_short (length out) xs) refl
       where
         short : (t : Bool) → is_short (length out) xs ≡ t → written out (listed xs) ≡ out
         short true s = rw s
-        short false s = absurd (h (rw s))
+        short false s = absurd (ok_not_err (rw s at h))
 
 pub first_bad_line : FirstBadLine
-first_bad_line text out low high = go (outcome_of text) refl low high
+first_bad_line text out r n high = go (outcome_of text) refl n
   where
-    go : (o : Outcome) → outcome_of text ≡ o → 1 ≤ (packed (length out) o).number → (packed (length out) o).number ≤ a_set → Stops text (packed (length out) o).number (packed (length out) o).line
-    go (refused k m) e a b =
-        let r = outcome_refused 1 (lines_of text) k m e in
-        let p = r.place in
-        let w = r.within in
-        let i : m - 1 ≡ r.j = omega arith in
-        record { from = omega arith; to = omega arith; here = rw i r.here; before = λ x h. r.before x (omega arith) }
-    go (listed xs) e a b = short (is_short (length out) xs) refl a b
+    go : (o : Outcome) → outcome_of text ≡ o → packed (length out) o ≡ Err r → Stops text r.number r.line
+    go (refused k m) e q = rw (← err_is q) (stops k m (outcome_refused 1 (lines_of text) k m e))
       where
-        short : (t : Bool) → is_short (length out) xs ≡ t → 1 ≤ (packed (length out) (listed xs)).number → (packed (length out) (listed xs)).number ≤ a_set
-            → Stops text (packed (length out) (listed xs)).number (packed (length out) (listed xs)).line
-        short true s x y = absurd (let z : 8 ≤ a_set = rw s at y in omega arith)
-        short false s x y = absurd (let z : 1 ≤ 0 = rw s at x in omega arith)
+        stops : (k m : ℕ) → Bad 1 (lines_of text) k m → Stops text k m
+        stops k m r =
+            let p = r.place in
+            let w = r.within in
+            let i : m - 1 ≡ r.j = omega arith in
+            record { from = omega arith; to = omega arith; here = rw i r.here; before = λ x h. r.before x (omega arith) }
+    go (listed xs) e q = short (is_short (length out) xs) refl q
+      where
+        short : (t : Bool) → is_short (length out) xs ≡ t → packed (length out) (listed xs) ≡ Err r → Stops text r.number r.line
+        short true s y = absurd (let z : 8 ≤ a_set = rw (← ap (λ (x : Refused). x.number) (err_is (rw s at y))) at high in omega arith)
+        short false s y = absurd (ok_not_err (rw s at y))

@@ -20,10 +20,11 @@ use Rattle.phrases.proofs.Reading.{first_words, found, Next, next_word}
 use Rattle.phrases.proofs.Saying.{word_seen, says_empty}
 use Rattle.sayings.specs.Sayings.{row_of}
 use Rattle.sayings.specs.Inside.{cell, as_told, row_by}
-use Rattle.sayings.specs.declared.Told.{Told}
+use Rattle.std.specs.Prelude.{Result}
+use Rattle.sayings.specs.declared.Said.{Said}
 use Rattle.sayings.proofs.Telling.{word_of, Cells, row_is}
 use Rattle.records.proofs.Entries.{all_append}
-use Rattle.listing.specs.Inside.{line_by, line_at}
+use Rattle.listing.specs.Inside.{line_at}
 use Rattle.listing.specs.declared.Line.{Line}
 
 -- after n words of the line that begins at `at`: the next is looked for at `from`
@@ -88,13 +89,13 @@ module _ (text : List ℕ) (b : All IsByte text) (at from n : ℕ) (cells : List
       ∙ says_empty next.g next.bytes
 
   -- the line has no more words
-  pub worded_end : t ≡ true → (r : Told) → r ≡ row_by n cells → (j : ℕ) → j ≡ line_end f.next (drop f.next text) → (l : Line) → l ≡ line_by r j
-      → l ≡ line_at at (drop at text)
-  worded_end h r er j ej l el =
+  pub worded_end : t ≡ true → (r : Result Said ℕ) → r ≡ row_by n cells → (j : ℕ) → j ≡ line_end f.next (drop f.next text)
+      → ◌≡◌ {A = Line} (record { said = r; next = j }) (line_at at (drop at text))
+  worded_end h r er j ej =
       let d : first_words (drop at text) ≡ w.done = w.rest ∙ rw (next.last (sym test ∙ h)) (append-nil w.done) in
-      let k : r ≡ as_told (row_of (first_words (drop at text))) = er ∙ rw (w.count, d) (row_is cells w.done w.bytes w.kept) in
+      let k : r ≡ as_told (row_of (first_words (drop at text))) = er ∙ rw (w.count, d) (row_is cells w.done w.size w.bytes w.kept) in
       let i : j ≡ line_end at (drop at text) = ej ∙ sym (w.ends ∙ next.line) in
-      el ∙ rw (k, i)
+      rw (k, i)
 
   -- a word more
   pub record More : Type 0 where

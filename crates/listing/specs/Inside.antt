@@ -1,24 +1,19 @@
 -- How the functions behind `pack` go over the text, line by line. A reader of the rules can leave this page out: the open function's
 -- contract does not cite it. Assumes nothing.
-use Rattle.std.specs.Prelude.{List, ℕ, length, replicate}
+use Rattle.std.specs.Prelude.{List, Result, Ok, ℕ, length, replicate}
 use Rattle.std.proofs.Math.Seq.{paste}
 use Rattle.records.specs.Limits.{record_bytes}
 use Rattle.phrases.specs.Inside.{line_end, first_line}
 use Rattle.sayings.specs.Inside.{as_told}
-use Rattle.sayings.specs.declared.Told.{Told}
 use Rattle.sayings.specs.declared.Said.{Said}
 use Rattle.sayings.specs.declared.Said.TheVariants.{Nothing, Plan, Mark, Event}
-use Rattle.listing.specs.Listing.{line_row, Outcome, refused, listed, bytes_said}
+use Rattle.listing.specs.Listing.{line_row, Outcome, refused, listed, refusal, bytes_said}
 use Rattle.listing.specs.declared.Line.{Line}
-use Rattle.listing.specs.declared.Gone.{Gone}
-
--- a line by its row and the place behind it
-abbrev pub line_by : Told → ℕ → Line
-line_by r i = record { number = r.number; said = r.said; next = i }
+use Rattle.listing.specs.declared.Refused.{Refused}
 
 -- the first line of a text that begins at place i
 abbrev pub line_at : ℕ → List ℕ → Line
-line_at i s = line_by (as_told (line_row (first_line s))) (line_end i s)
+line_at i s = record { said = as_told (line_row (first_line s)); next = line_end i s }
 
 -- how many records a line makes
 abbrev pub one_if : Said → ℕ
@@ -28,9 +23,9 @@ one_if Mark = 1
 one_if (Event m p s) = 1
 
 -- the text gone over: what was expected at the first bad line, or how many records there are
-abbrev pub scanned : Outcome → Gone
-scanned (refused k n) = record { number = k; line = n; records = 0 }
-scanned (listed xs) = record { number = 0; line = 0; records = length xs }
+abbrev pub scanned : Outcome → Result ℕ Refused
+scanned (refused k n) = refusal k n
+scanned (listed xs) = Ok (length xs)
 
 -- the sixteen bytes of a line's record; zeros where it makes none
 abbrev pub full_bytes : Said → List ℕ

@@ -1,11 +1,11 @@
 -- A listing typed by people as the bytes that the programs read: a record of sixteen bytes for each line that has words. Nothing is
 -- written unless every line is good: else the first bad line, counted from 1, and what was expected there are told. What a line says
 -- and the numbers of what is expected are handed on from `sayings`, lines and words from `phrases`. Assumes nothing.
-use Rattle.std.specs.Prelude.{Bool, List, [], ◌∷◌, ◌++◌, ℕ, suc, ◌*◌, ltb, length, drop, if◌then◌else◌}
+use Rattle.std.specs.Prelude.{Bool, Result, Ok, Err, List, [], ◌∷◌, ◌++◌, ℕ, suc, ◌*◌, ltb, length, drop, if◌then◌else◌}
 use Rattle.records.specs.Limits.{record_bytes}
 use Rattle.sayings.specs.declared.Said.{Said}
 use Rattle.sayings.specs.declared.Said.TheVariants.{Nothing, Plan, Mark, Event}
-use Rattle.listing.specs.declared.Packed.{Packed}
+use Rattle.listing.specs.declared.Refused.{Refused}
 pub use Rattle.phrases.specs.Phrases.{lines_of, words_of}
 pub use Rattle.sayings.specs.Sayings.{a_kind, so_many_words, a_point, a_number, a_count, a_point_or_none, a_set, Row, bad, good, line_row, bytes_said}
 unfoldable pub use Rattle.sayings.specs.Sayings.{expected, holds, first_wrong, said_by, row_of}
@@ -53,13 +53,14 @@ all_said (x ∷ xs) = bytes_said x ++ all_said xs
 abbrev pub is_short : ℕ → List Said → Bool
 is_short room xs = ltb room (record_bytes * length xs)
 
-abbrev pub answer : ℕ → ℕ → ℕ → Packed
-answer n l m = record { number = n; line = l; length = m }
+-- what was expected, and the line
+abbrev pub refusal : ℕ → ℕ → Result ℕ Refused
+refusal n l = Err (record { number = n; line = l })
 
--- what packing answers, where the buffer has so many bytes
-abbrev pub packed : ℕ → Outcome → Packed
-packed room (refused k n) = answer k n 0
-packed room (listed xs) = if is_short room xs then answer a_longer_buffer 0 0 else answer 0 0 (record_bytes * length xs)
+-- what packing answers, where the buffer has so many bytes: how many it has written
+abbrev pub packed : ℕ → Outcome → Result ℕ Refused
+packed room (refused k n) = refusal k n
+packed room (listed xs) = if is_short room xs then refusal a_longer_buffer 0 else Ok (record_bytes * length xs)
 
 -- what it leaves in the buffer
 abbrev pub written : List ℕ → Outcome → List ℕ
@@ -67,7 +68,7 @@ written out (refused k n) = out
 written out (listed xs) = if is_short (length out) xs then out else all_said xs ++ drop (record_bytes * length xs) out
 
 -- what packing a text into a buffer answers
-abbrev pub answer_of : List ℕ → List ℕ → Packed
+abbrev pub answer_of : List ℕ → List ℕ → Result ℕ Refused
 answer_of text out = packed (length out) (outcome_of text)
 
 -- the buffer after it

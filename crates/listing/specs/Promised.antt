@@ -1,11 +1,12 @@
 -- What is promised of a packed listing, each statement as a type. `proofs/Theorems` proves them. Definitions only. Assumes nothing.
-use Rattle.std.specs.Prelude.{◌≡◌, List, [], ◌∷◌, ◌++◌, map, ℕ, ◌+◌, ◌*◌, ◌-◌, ◌≤◌, ◌<◌, eqb, length, get_or, drop, if◌then◌else◌}
+use Rattle.std.specs.Prelude.{◌≡◌, Ok, Err, List, [], ◌∷◌, ◌++◌, map, ℕ, ◌+◌, ◌*◌, ◌-◌, ◌≤◌, ◌<◌, eqb, length, get_or, drop, if◌then◌else◌}
 use Rattle.numbers.specs.Numbers.{word_at}
 use Rattle.records.specs.Limits.{record_bytes}
 use Rattle.records.specs.Bytes.{record_in}
 use Rattle.records.specs.declared.Record.{Record}
 use Rattle.sayings.specs.declared.Said.{Said}
 use Rattle.sayings.specs.declared.Said.TheVariants.{Plan, Event}
+use Rattle.listing.specs.declared.Refused.{Refused}
 use Rattle.listing.specs.Listing.{lines_of, words_of, Row, bad, good, line_row, bytes_said, all_said, answer_of, buffer_of, a_set}
 
 -- those lines that have words
@@ -17,16 +18,16 @@ worded (l ∷ ls) = if eqb (length (words_of l)) 0 then worded ls else l ∷ wor
 pub record Packs (text out : List ℕ) : Type 0 where
   pub said : List Said
   pub each : map line_row (worded (lines_of text)) ≡ map good said
-  pub long : (answer_of text out).length ≡ record_bytes * length said
+  pub long : answer_of text out ≡ Ok (record_bytes * length said)
   pub bytes : buffer_of text out ≡ all_said said ++ drop (record_bytes * length said) out
 
--- Where packing answers 0, what is written is one record for each line that is not empty, in order.
+-- Where packing answers a length, what is written is one record for each line that is not empty, in order.
 abbrev pub OneForEachLine : Type 0
-OneForEachLine = (text out : List ℕ) → (answer_of text out).number ≡ 0 → Packs text out
+OneForEachLine = (text out : List ℕ) (n : ℕ) → answer_of text out ≡ Ok n → Packs text out
 
--- Where it answers another number, no byte is changed.
+-- Where it refuses, no byte is changed.
 abbrev pub NothingUnlessGood : Type 0
-NothingUnlessGood = (text out : List ℕ) → ((answer_of text out).number ≡ 0 → ⊥) → buffer_of text out ≡ out
+NothingUnlessGood = (text out : List ℕ) (r : Refused) → answer_of text out ≡ Err r → buffer_of text out ≡ out
 
 -- a row that is good
 pub record IsGood (r : Row) : Type 0 where
@@ -40,11 +41,9 @@ pub record Stops (text : List ℕ) (n l : ℕ) : Type 0 where
   pub here : line_row (get_or (lines_of text) (l - 1) []) ≡ bad n
   pub before : (i : ℕ) → i + 1 < l → IsGood (line_row (get_or (lines_of text) i []))
 
--- Where it answers a number of a line, that line is the first bad one, and the number is what was expected there.
+-- Where it refuses with a number of a line, that line is the first bad one, and the number is what was expected there.
 abbrev pub FirstBadLine : Type 0
-FirstBadLine =
-    (text out : List ℕ) → 1 ≤ (answer_of text out).number → (answer_of text out).number ≤ a_set
-    → Stops text (answer_of text out).number (answer_of text out).line
+FirstBadLine = (text out : List ℕ) (r : Refused) → answer_of text out ≡ Err r → r.number ≤ a_set → Stops text r.number r.line
 
 -- What the programs read in the sixteen bytes of a line's record is the record that the line says.
 abbrev pub ReadAsTyped : Type 0

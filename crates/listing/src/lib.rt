@@ -4,70 +4,35 @@
 
 #![tactic(auto)]
 
-ghost use Rattle.std.specs.Prelude.{◌≡◌, ◌+◌, ◌*◌, ◌≤◌, min, eqb, length, drop};
+ghost use Rattle.std.specs.Prelude.{◌≡◌, ◌+◌, ◌*◌, ◌≤◌, length, drop};
+ghost use Rattle.std.specs.Result.{IsOkAnd};
 ghost use Rattle.records.specs.Limits.{record_bytes};
-ghost use Rattle.listing.specs.Listing.{outcome_of, bytes_said, answer, written, answer_of, buffer_of};
+ghost use Rattle.listing.specs.Listing.{outcome_of, bytes_said, written, answer_of, buffer_of};
 ghost use Rattle.sayings.specs.declared.Said.TheVariants.{Event};
-ghost use Rattle.listing.specs.Inside.{line_by, line_at, one_if, scanned, full_bytes, put_of};
+ghost use Rattle.listing.specs.Inside.{line_at, one_if, scanned, full_bytes, put_of};
 
 use phrases::{Word, line_end, word_at};
 use records::{RECORD_BYTES, bytes_of, put};
-use sayings::{CELLS, Said, Told, row_by};
+use sayings::{CELLS, Said, row_by};
 
 // No line is bad, but the buffer is too short. The numbers of bad lines are those of `sayings`.
 pub const A_LONGER_BUFFER: u32 = 8;
 
-// What packing answers: number 0 and how many bytes were written; or what was expected, and the line, counted from 1.
+// What a text is refused with: what was expected, and the line, counted from 1; or the buffer's length, and no line.
 #[derive(Clone, Copy)]
-pub struct Packed {
+pub struct Refused {
     pub number: u32,
     pub line: usize,
-    pub length: usize,
 }
 
-// A line: what it says, or what was expected; and the place behind it.
+// A line: what it says, or the number of what was expected; and the place behind it.
 #[derive(Clone, Copy)]
 struct Line {
-    number: u32,
-    said: Said,
+    said: Result<Said, u32>,
     next: usize,
 }
 
-// A text gone over: what was expected and the line, or how many records there are.
-#[derive(Clone, Copy)]
-struct Gone {
-    number: u32,
-    line: usize,
-    records: usize,
-}
-
-// The line has no more words.
-fn is_empty(w: Word) -> bool
-    ensures { result ≡ eqb w.seen.count 0 }
-{
-    let s = w.seen;
-    s.count == 0
-}
-
-// The cell of a word behind so many others.
-fn cell_of(words: usize) -> usize
-    ensures { (result ≡ min words 5) × (result ≤ 5) }
-{
-    if words < 5 { words } else { 5 }
-}
-
-fn line_by(row: Told, next: usize) -> Line
-    ensures { result ≡ line_by row next }
-{
-    let said = row.said;
-    Line {
-        number: row.number,
-        said: said,
-        next: next,
-    }
-}
-
-// The line of a text that begins at a place.
+// The line of a text that begins at a place. Words past the cells share the last one.
 fn line_at(text: &[u8], at: usize) -> Line
     ensures { result ≡ line_at at (drop at text.now) }
 {
@@ -75,13 +40,16 @@ fn line_at(text: &[u8], at: usize) -> Line
     let mut cells = [none; CELLS];
     let mut words: usize = 0;
     let mut from = at;
+    // It goes on to where the word ends: no index is counted.
     loop {
         let found = word_at(text, from);
-        let word = found.word;
-        if is_empty(word) {
-            return line_by(row_by(words, cells), line_end(text, found.next));
+        if found.word.seen.count == 0 {
+            return Line {
+                said: row_by(words, cells),
+                next: line_end(text, found.next),
+            };
         }
-        cells[cell_of(words)] = word;
+        cells[words.min(CELLS - 1)] = found.word;
         words += 1;
         from = found.next;
     }
@@ -99,33 +67,29 @@ fn one_if(said: Said) -> usize
     }
 }
 
-// The text gone over.
-fn scan(text: &[u8]) -> Gone
+// The text gone over: how many records it makes.
+fn scan(text: &[u8]) -> Result<usize, Refused>
     ensures { result ≡ scanned (outcome_of text.now) }
 {
     let n = text.len();
     let mut lines: usize = 0;
     let mut records: usize = 0;
     let mut at: usize = 0;
+    // It goes on to where the line ends: no index is counted.
     while at < n {
         let line = line_at(text, at);
         lines += 1;
-        if line.number != 0 {
-            return Gone {
-                number: line.number,
+        let said = match line.said {
+            Ok(said) => said,
+            Err(number) => return Err(Refused {
+                number,
                 line: lines,
-                records: 0,
-            };
-        }
-        let said = line.said;
+            }),
+        };
         records += one_if(said);
         at = line.next;
     }
-    Gone {
-        number: 0,
-        line: 0,
-        records: records,
-    }
+    Ok(records)
 }
 
 // The sixteen bytes of an event.
@@ -177,42 +141,34 @@ fn put_said(out: &mut [u8], at: usize, said: Said)
 
 // The records of a good text into the front of the buffer.
 fn write(text: &[u8], out: &mut [u8])
-    requires { ((scanned (outcome_of text.now)).number ≡ 0) × (record_bytes * (scanned (outcome_of text.now)).records ≤ length out.old) }
+    requires { IsOkAnd (scanned (outcome_of text.now)) (λ records. record_bytes * records ≤ length out.old) }
     ensures { out.new ≡ written out.old (outcome_of text.now) }
 {
     let n = text.len();
     let mut to: usize = 0;
     let mut at: usize = 0;
+    // It goes on to where the line ends: no index is counted.
     while at < n {
         let line = line_at(text, at);
-        let said = line.said;
-        put_said(out, to, said);
-        to += RECORD_BYTES * one_if(said);
+        if let Ok(said) = line.said {
+            put_said(out, to, said);
+            to += RECORD_BYTES * one_if(said);
+        }
         at = line.next;
     }
 }
 
-fn told(number: u32, line: usize, length: usize) -> Packed
-    ensures { result ≡ answer number line length }
-{
-    Packed {
-        number: number,
-        line: line,
-        length: length,
-    }
-}
-
-// Packs a listing into the front of the buffer, or changes none of it.
-pub fn pack(text: &[u8], out: &mut [u8]) -> Packed
+// Packs a listing into the front of the buffer, and answers how many bytes were written; or changes none of it.
+pub fn pack(text: &[u8], out: &mut [u8]) -> Result<usize, Refused>
     ensures { (result ≡ answer_of text.now out.old) × (out.new ≡ buffer_of text.now out.old) }
 {
-    let found = scan(text);
-    if found.number != 0 {
-        return told(found.number, found.line, 0);
-    }
-    if out.len() / RECORD_BYTES < found.records {
-        return told(A_LONGER_BUFFER, 0, 0);
+    let records = scan(text)?;
+    if out.len() / RECORD_BYTES < records {
+        return Err(Refused {
+            number: A_LONGER_BUFFER,
+            line: 0,
+        });
     }
     write(text, out);
-    told(0, 0, RECORD_BYTES * found.records)
+    Ok(RECORD_BYTES * records)
 }

@@ -14,7 +14,7 @@ use Rattle.points.specs.Sets.{member, with_of}
 use Rattle.points.proofs.Laws.{member_empty, member_small, member_with, with_fits}
 use Rattle.std.specs.Prelude.{if◌then◌else◌}
 use Rattle.plan.specs.Limits.{most_points}
-use Rattle.plan.specs.APlan.{link, ordinary, wait, is, some, watched, ends_at, link_to, gap_of, blank}
+use Rattle.plan.specs.APlan.{ordinary, wait, is, some, watched, link_to, gap_of, blank}
 use Rattle.records.specs.declared.Record.{Record}
 use Rattle.history.specs.History.{minute_in}
 use Rattle.lowhigh.specs.Rules.{shuts, place_from, number_at, earliest, greatest, bound, least, never}

@@ -2,13 +2,11 @@
 -- plain values: rs are the plan's records, then the clock, the set of done points and the minute of each. High can be below
 -- zero, so it is kept 100,000 up; where there is none, it is past every minute. `board` says the same words of a board.
 -- Assumes nothing.
-use Rattle.std.specs.Prelude.{Bool, true, false, not, ◌&&◌, ◌||◌, List, [], ◌∷◌, ℕ, ◌+◌, ◌-◌, ◌^◌, min, max, eqb, ltb, if◌then◌else◌}
+use Rattle.std.specs.Prelude.{Bool, true, false, not, ◌&&◌, ◌||◌, List, [], ◌∷◌, ℕ, ◌+◌, ◌-◌, ◌^◌, min, max, eqb, ltb, if◌then◌else◌, Option, Some, None}
 use Rattle.points.specs.Sets.{member}
 use Rattle.plan.specs.Limits.{farthest}
 use Rattle.plan.specs.APlan.{ordinary, wait, is, points, watched, link_to, gap_of}
 unfoldable pub use Rattle.plan.specs.APlan.{place_from}
-use Rattle.plan.specs.declared.Found.{Found}
-use Rattle.plan.specs.declared.Found.TheVariants.{At, Nothing}
 use Rattle.records.specs.declared.Record.{Record}
 use Rattle.history.specs.History.{minute_in, runs}
 
@@ -25,21 +23,21 @@ abbrev pub foremans : List Record → ℕ → ℕ → Bool
 foremans rs done q = ltb q (points rs) && (not (watched rs q) && not (member done q))
 
 -- the first record in file order that keeps q shut, if one does
-abbrev pub shut_by : List Record → ℕ → ℕ → Found
+abbrev pub shut_by : List Record → ℕ → ℕ → Option ℕ
 shut_by rs done q = place_from 0 (shuts rs done q) rs
 
-abbrev pub is_nothing : Found → Bool
-is_nothing Nothing = true
-is_nothing (At i) = false
+abbrev pub is_nothing : Option ℕ → Bool
+is_nothing None = true
+is_nothing (Some i) = false
 
 -- open: no record keeps it shut
 abbrev pub is_open : List Record → ℕ → ℕ → Bool
 is_open rs done q = foremans rs done q && is_nothing (shut_by rs done q)
 
 -- a record's number in the plan's file, and 0 for none: record 0 is always a point's
-abbrev pub number_at : Found → ℕ
-number_at Nothing = 0
-number_at (At i) = i
+abbrev pub number_at : Option ℕ → ℕ
+number_at None = 0
+number_at (Some i) = i
 
 -- the number of the record that keeps q shut
 abbrev pub holder : List Record → ℕ → ℕ → ℕ

@@ -4,15 +4,15 @@
 
 #![tactic(auto)]
 
-ghost use Rattle.std.specs.Prelude.{◌≡◌, ◌-◌, ◌≤◌, max, min, length, if◌then◌else◌};
+ghost use Rattle.std.specs.Prelude.{◌≡◌, ◌≤◌, length, if◌then◌else◌};
 ghost use Rattle.points.specs.Sets.{with_of};
 ghost use Rattle.plan.specs.Limits.{most_points};
 ghost use Rattle.plan.specs.APlan.{records_of};
 ghost use Rattle.lowhigh.specs.Inside.{last_minute, Near, Given, ordinary_says, wait_says, says_of, Small, said_by, Hearing, raised, lowered, held, TablesOf};
 
-use history::{ROOM, used};
+use history::ROOM;
 use links::{End, Links};
-use plan::{Gap, ORDINARY, Plan, Record, WAIT, split};
+use plan::{Gap, ORDINARY, Plan, Record, WAIT, split, used};
 use points::{has, with};
 
 // No duration and no bound is further from 0 than this, and an offer reaches no further past the clock.
@@ -20,25 +20,6 @@ pub const FARTHEST: u32 = plan::FARTHEST as u32;
 
 // Past every minute.
 pub const NEVER: u32 = 4294967295;
-
-pub fn larger(x: u32, y: u32) -> u32
-    ensures { result ≡ max x y }
-{
-    if x < y { y } else { x }
-}
-
-pub fn lesser(x: u32, y: u32) -> u32
-    ensures { result ≡ min x y }
-{
-    if x < y { x } else { y }
-}
-
-// The difference, and 0 where there is none.
-pub fn past(x: u32, y: u32) -> u32
-    ensures { result ≡ x - y }
-{
-    if x < y { 0 } else { x - y }
-}
 
 // What the records say of each point: which are shut, the number of the first record that keeps each of these shut and 0 for
 // the others, the Lows, and the Highs, 100,000 up.
@@ -52,6 +33,7 @@ pub struct Tables {
 
 // What one record says: whether it keeps its first point shut, before which minute it keeps that point, and past which
 // minute, 100,000 up, it does not let its second point come.
+// Three facts of any record, none of which is there only with another: so no Option.
 #[derive(Clone, Copy)]
 pub struct Said {
     pub shuts: bool,
@@ -77,7 +59,7 @@ fn ordinary(gap: Gap, left: bool, x: u32, came: bool, y: u32) -> Said
     requires { Near gap × (x ≤ last_minute) × (y ≤ last_minute) }
     ensures { result ≡ ordinary_says gap left x came y }
 {
-    let low = past(y + gap.down, gap.up);
+    let low = (y + gap.down).saturating_sub(gap.up);
     let high = x + FARTHEST + gap.up - gap.down;
     Said {
         shuts: (0 < gap.down) & !came,
@@ -137,8 +119,8 @@ fn hear(
     let b = r.b as usize % ROOM;
     let from = end.from as usize % ROOM;
     let said = says(r, done, minutes[a], minutes[b], end.from, minutes[from]);
-    lows[a] = larger(lows[a], said.low);
-    highs[b] = lesser(highs[b], said.high);
+    lows[a] = lows[a].max(said.low);
+    highs[b] = highs[b].min(said.high);
     said.shuts
 }
 
@@ -162,20 +144,18 @@ pub fn tables_of(plan: Plan, links: Links, clock: u32, done: u32, minutes: [u32;
     let mut holders = [0u32; ROOM];
     let mut lows = [clock; ROOM];
     let mut highs = [NEVER; ROOM];
-    let mut i: usize = 0;
-    while i < count {
+    for i in 0..count {
         let r = plan.records[i];
         let b = r.b as usize % ROOM;
         let end = links.ends[b];
         let so = hear(r, end, done, &minutes, &mut lows, &mut highs);
         hold(&mut holders, shut, r.a, so, i as u32);
         shut = with_if(so, shut, r.a);
-        i += 1;
     }
     Tables {
-        shut: shut,
-        holders: holders,
-        lows: lows,
-        highs: highs,
+        shut,
+        holders,
+        lows,
+        highs,
     }
 }

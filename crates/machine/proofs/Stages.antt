@@ -6,7 +6,7 @@ use Prim.Native.Nat.{ℕ, zero, suc, ◌+◌, ◌%◌, ◌^◌, ◌≤◌}
 use native.Mathlib.Omega.{arith}
 use lib.ListN.{length}
 use Rattle.history.proofs.Tests.{clash}
-use Rattle.plan.specs.declared.Reading.{Reading}
+use Rattle.plan.specs.ReplyNumbers.{Reading, plan_in}
 use Rattle.stream.specs.Buffers.{appended}
 use Rattle.stream.specs.Sheets.{read_front}
 use Rattle.saying.specs.Makes.{EventsPut}
@@ -52,7 +52,7 @@ module _ (full over : Bool) (s : Stage) (front₀ rows₀ into₀ out₀ ends₀
 
   module _ (m : part.marked ≡ true) (reading : Reading) (e : reading ≡ read_front part.length front) {rows into out ends kept lines₁ : List ℕ} {b : Begun}
       (g : ReadBegun full reading rows₀ into₀ out₀ ends₀ kept₀ lines₀ rows into out ends kept lines₁ b) {lines : List ℕ} {end : ℕ}
-      (p : OverPut over b.number reading.plan kept 0 lines₁ b.end lines end) where
+      (p : OverPut over b.number (plan_in reading) kept 0 lines₁ b.end lines end) where
     read_on : over ≡ false
         → Feeds full s front₀ rows₀ into₀ out₀ ends₀ kept₀ piece lines₀ front rows into out ends kept lines
         (record { begun = true; number = b.number; part = part.length; events = 0; links = b.links; ponds = b.ponds; used = part.used; end = end })
@@ -82,7 +82,7 @@ module _ (full over : Bool) (s : Stage) (front rows into out ends kept₀ piece 
   turned_refused z r e = rw e (record { on = λ h. refused o z; last = λ h. refused_over o z; used = λ h. refl })
 
   pub turned_over : over ≡ true → s.number ≡ 0 → (again : Reading) → again ≡ read_front s.part front → {lines : List ℕ} {end : ℕ}
-      → OverPut over s.number again.plan kept₀ (length piece) lines₀ 0 lines end → (r : Stage)
+      → OverPut over s.number (plan_in again) kept₀ (length piece) lines₀ 0 lines end → (r : Stage)
       → r ≡ record { begun = true; number = s.number; part = s.part; events = s.events; links = s.links; ponds = s.ponds; used = length piece; end = end }
       → Turned full over s front rows into out ends kept₀ piece lines₀ front rows into out ends kept₀ lines r
   turned_over h z again q p r e =
@@ -95,17 +95,6 @@ module _ (full over : Bool) (s : Stage) (front rows into out ends kept₀ piece 
   turned_events f z {said = said} x r e =
       let here : (n : ℕ) → Stage = λ n. record { begun = true; number = n; part = s.part; events = said.events; links = s.links; ponds = s.ponds; used = said.used; end = said.end } in
       rw (e ∙ ap here z) (record { on = λ h. events o z x; last = λ h. clash (sym h ∙ f); used = λ h. clash (sym h ∙ f) })
-
--- the input ends in the plan part
-module _ (full : Bool) (s : Stage) (front₀ rows₀ into₀ out₀ ends₀ kept₀ rest lines₀ : List ℕ) (o : s.begun ≡ false) (n : ℕ) (front : List ℕ)
-    (e : n ≡ (s.part + length rest) % 2 ^ 64) (f : front ≡ appended front₀ s.part rest) where
-  pub over_refused : {rows into out ends kept lines : List ℕ} {b : Begun} → PlanBegun full n front rows₀ into₀ out₀ ends₀ kept₀ lines₀ rows into out ends kept lines b → (b.number ≡ 0 → ⊥)
-      → Finishes full s front₀ rows₀ into₀ out₀ ends₀ kept₀ rest lines₀ lines b.end
-  over_refused g bad = rest_refused o (rw (e, f) at g) bad
-
-  pub over_read : {rows into out ends kept lines₁ lines : List ℕ} {b : Begun} {end : ℕ} → PlanBegun full n front rows₀ into₀ out₀ ends₀ kept₀ lines₀ rows into out ends kept lines₁ b → b.number ≡ 0
-      → LastPut n front kept 0 lines₁ b.end lines end → Finishes full s front₀ rows₀ into₀ out₀ ends₀ kept₀ rest lines₀ lines end
-  over_read g z l = rest_read o (rw (e, f) at g) z (rw (e, f) at l)
 
 -- before any input no plan part is over, and none of it has come
 pub first_begun : (r : Stage) → r ≡ at_first → (r.begun ≡ false) × (r.part ≡ 0)

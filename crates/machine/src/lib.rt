@@ -10,13 +10,11 @@
 ghost use Rattle.std.specs.Prelude.{◌≡◌, true};
 ghost use Rattle.machine.specs.Feeds.{at_first};
 
-mod carried;
 mod ended;
-mod fed_plan;
 mod pieces;
 mod plan_part;
 
-pub use carried::carry;
+pub use chunks::carry;
 pub use ended::finish;
 use links::{End, Links};
 pub use pieces::feed;
@@ -25,6 +23,7 @@ pub use plan_part::plan_turn;
 
 // Whether the plan part is over, and then the plan's refusal, or 0; the bytes of the plan part so far; the number of the next event; the
 // plan's links and ponds; how many bytes of the last piece were used; and where its lines end.
+// It is fed on, refused or not, and `Turned`, `Feeds` and `Finishes` are stated of all its parts: so no Result.
 #[derive(Clone, Copy)]
 pub struct Stage {
     pub begun: bool,
@@ -56,7 +55,7 @@ pub fn begin() -> Stage
         number: plan::ACCEPTED,
         part: 0,
         events: 0,
-        links: links,
+        links,
         ponds: [0; ROOM],
         used: 0,
         end: 0,
@@ -73,10 +72,10 @@ pub fn stands(stage: Stage, events: u64, used: usize, end: usize) -> Stage
         begun: true,
         number: stage.number,
         part: stage.part,
-        events: events,
-        links: links,
-        ponds: ponds,
-        used: used,
-        end: end,
+        events,
+        links,
+        ponds,
+        used,
+        end,
     }
 }

@@ -4,7 +4,7 @@ ghost use Rattle.saying.specs.Makes.{most_made};
 ghost use Rattle.machine.specs.Feeds.{Feeds};
 
 use crate::Stage;
-use crate::fed_plan::feed_plan;
+use crate::plan_part::plan_turn;
 use engine::{KEPT, LIST};
 use plan::ACCEPTED;
 use rows::SHEET;
@@ -28,9 +28,9 @@ pub fn feed(
     ensures within { result.used ≤ length input.now }
 {
     if !stage.begun {
-        return feed_plan(
-            full, stage, front, &mut *rows, &mut *into, &mut *out, &mut *ends, &mut *kept, input,
-            lines,
+        return plan_turn(
+            full, false, stage, front, &mut *rows, &mut *into, &mut *out, &mut *ends, &mut *kept,
+            input, lines,
         );
     }
     let links = stage.links;
@@ -41,8 +41,8 @@ pub fn feed(
             number: stage.number,
             part: stage.part,
             events: stage.events,
-            links: links,
-            ponds: ponds,
+            links,
+            ponds,
             used: input.len(),
             end: 0,
         };
@@ -66,8 +66,8 @@ pub fn feed(
         number: ACCEPTED,
         part: stage.part,
         events: said.events,
-        links: links,
-        ponds: ponds,
+        links,
+        ponds,
         used: said.used,
         end: said.end,
     }

@@ -1,12 +1,14 @@
 // The plan part: its records are kept, and at the mark, or where the input ends, the plan is read.
-ghost use Rattle.std.specs.Prelude.{◌≡◌, false, ◌+◌, ◌*◌, ◌≤◌, length};
+ghost use Rattle.std.specs.Prelude.{◌≡◌, true, false, ◌+◌, ◌*◌, ◌≤◌, length};
 ghost use Rattle.plan.specs.Limits.{most_points};
 ghost use Rattle.lines.specs.Text.{room};
+ghost use Rattle.saying.specs.Makes.{most_made};
 ghost use Rattle.machine.specs.Feeds.{Turned};
 
 use crate::Stage;
 use engine::{KEPT, LIST};
 use feeding::{begin_read, keep_part, put_last};
+use plan::plan_in;
 use rows::SHEET;
 use stream::read_front;
 
@@ -24,7 +26,9 @@ pub fn plan_turn(
     piece: &[u8],
     lines: &mut [u8],
 ) -> Stage
-    requires { (room * (most_points + 4) ≤ length lines.old) × (stage.begun ≡ false) }
+    requires room { most_made ≤ length lines.old }
+    requires last { over ≡ true → room * (most_points + 4) ≤ length lines.old }
+    requires unread { stage.begun ≡ false }
     ensures { Turned full over stage front.old rows.old into.old out.old ends.old kept.old piece.now lines.old front.new rows.new into.new out.new ends.new kept.new lines.new result }
 {
     let part = keep_part(over, front, stage.part, piece);
@@ -36,8 +40,8 @@ pub fn plan_turn(
             number: stage.number,
             part: part.length,
             events: stage.events,
-            links: links,
-            ponds: ponds,
+            links,
+            ponds,
             used: part.used,
             end: 0,
         };
@@ -48,14 +52,14 @@ pub fn plan_turn(
     );
     let links = begun.links;
     let ponds = begun.ponds;
-    let plan = reading.plan;
+    let plan = plan_in(reading);
     Stage {
         begun: true,
         number: begun.number,
         part: part.length,
         events: 0,
-        links: links,
-        ponds: ponds,
+        links,
+        ponds,
         used: part.used,
         end: put_last(over, begun.number, plan, &*kept, 0, lines, begun.end),
     }

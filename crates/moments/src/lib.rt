@@ -7,7 +7,7 @@ ghost use Rattle.std.specs.Prelude.{◌≡◌, ◌++◌};
 ghost use Rattle.moments.specs.Event.{line, moment_text, uid_line, summary_line, event_text, event_length};
 ghost use Rattle.buffers.specs.Inside.{Room, Laid};
 
-use buffers::{NOUGHT, digits_of, put, put_numbered};
+use buffers::{digits_of, put, put_numbered};
 
 // How many bytes a moment has: YYYYMMDDTHHMM00Z.
 pub const MOMENT_BYTES: usize = 16;
@@ -20,19 +20,19 @@ pub fn moment_of(year: u32, month: u32, day: u32, hour: u32, minute: u32) -> [u8
     ensures { result ≡ moment_text year month day hour minute }
 {
     [
-        NOUGHT + (year / 10 / 10 / 10 % 10) as u8,
-        NOUGHT + (year / 10 / 10 % 10) as u8,
-        NOUGHT + (year / 10 % 10) as u8,
-        NOUGHT + (year % 10) as u8,
-        NOUGHT + (month / 10 % 10) as u8,
-        NOUGHT + (month % 10) as u8,
-        NOUGHT + (day / 10 % 10) as u8,
-        NOUGHT + (day % 10) as u8,
+        b'0' + (year / 10 / 10 / 10 % 10) as u8,
+        b'0' + (year / 10 / 10 % 10) as u8,
+        b'0' + (year / 10 % 10) as u8,
+        b'0' + (year % 10) as u8,
+        b'0' + (month / 10 % 10) as u8,
+        b'0' + (month % 10) as u8,
+        b'0' + (day / 10 % 10) as u8,
+        b'0' + (day % 10) as u8,
         b'T',
-        NOUGHT + (hour / 10 % 10) as u8,
-        NOUGHT + (hour % 10) as u8,
-        NOUGHT + (minute / 10 % 10) as u8,
-        NOUGHT + (minute % 10) as u8,
+        b'0' + (hour / 10 % 10) as u8,
+        b'0' + (hour % 10) as u8,
+        b'0' + (minute / 10 % 10) as u8,
+        b'0' + (minute % 10) as u8,
         b'0',
         b'0',
         b'Z',

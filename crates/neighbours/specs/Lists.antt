@@ -3,6 +3,7 @@
 use Rattle.std.specs.Prelude.{◌≡◌, Bool, List, [], ◌∷◌, ℕ, zero, suc, ◌+◌, ◌-◌, ◌%◌, ◌<◌, ◌≤◌, max, eqb, ltb, length, get_or, if◌then◌else◌}
 use Rattle.plan.specs.Limits.{most_points, most_records}
 use Rattle.rows.specs.Sheet.{kind_at, field}
+use Rattle.neighbours.specs.declared.Walk.{Walk}
 
 -- a list for each point, and one for the records that are in no point's
 abbrev pub buckets : ℕ
@@ -41,10 +42,6 @@ pub record Indexed (key : ℕ → ℕ) (count : ℕ) (list : List ℕ) : Type 0 
 abbrev pub start_of : List ℕ → ℕ → ℕ
 start_of list z = get_or list (z % buckets) 0
 
--- where a walk goes on from i, with `left` entries that it may still read
-abbrev pub onward_of : List ℕ → ℕ → ℕ → ℕ
-onward_of list i left = if ltb 0 left then get_or list (buckets + i) 0 else most_records
-
 -- the entries from i on, at most f of them
 unfoldable pub chain : ℕ → List ℕ → ℕ → List ℕ
 chain zero list i = []
@@ -53,6 +50,10 @@ chain (suc f) list i = if ltb i most_records then i ∷ chain f list (get_or lis
 -- all entries of z
 abbrev pub entries_of : List ℕ → ℕ → List ℕ
 entries_of list z = chain most_records list (start_of list z)
+
+-- what a walk has still ahead of it
+abbrev pub still_ahead : Walk → List ℕ
+still_ahead e = chain e.left e.list.now e.at
 
 -- ---- what a walk does
 

@@ -4,13 +4,14 @@
 
 #![tactic(auto)]
 
-ghost use Rattle.std.specs.Prelude.{◌≡◌, ◌<◌, ◌≤◌, replicate, if◌then◌else◌};
+ghost use Rattle.std.specs.Prelude.{◌≡◌, ◌<◌, ◌≤◌, replicate};
+ghost use Rattle.std.specs.Iterator.{YieldsFirst, item_count};
 ghost use Rattle.plan.specs.Limits.{most_records};
 ghost use Rattle.rows.specs.Sheet.{width};
-ghost use Rattle.neighbours.specs.Lists.{buckets, list_room, key_of, key_at, start_of, onward_of, Indexed};
+ghost use Rattle.neighbours.specs.Lists.{buckets, list_room, key_of, key_at, entries_of, still_ahead, Indexed};
 
 use plan::{MOST_POINTS, MOST_RECORDS};
-use rows::{SHEET, index, word};
+use rows::SHEET;
 
 // A place for each point.
 pub const SIDE: usize = MOST_POINTS as usize;
@@ -29,24 +30,15 @@ const NONE: u16 = MOST_RECORDS as u16;
 
 const MANY: u64 = BUCKETS as u64;
 
-fn wide(x: u16) -> usize
-    ensures { result ≡ x }
-{
-    x as usize
-}
-
-// The first where `so`, else the second.
-fn pick(so: bool, a: usize, b: usize) -> usize
-    ensures { result ≡ (if so then a else b) }
-{
-    if so { a } else { b }
-}
-
 // The list of a record of some kind and point, where the kinds below `least` are in no point's.
 fn key(least: u64, kind: u64, point: u64) -> usize
     ensures { (result ≡ key_of least kind point) × (result < buckets) }
 {
-    pick(kind < least, SIDE, index(point % MANY))
+    if kind < least {
+        SIDE
+    } else {
+        (point % MANY) as usize
+    }
 }
 
 fn key_at(rows: &[u32; SHEET], least: u64, field: usize, i: usize) -> usize
@@ -54,7 +46,7 @@ fn key_at(rows: &[u32; SHEET], least: u64, field: usize, i: usize) -> usize
     ensures { (result ≡ key_at rows.now least field i) × (result < buckets) }
 {
     let at = i * WIDTH;
-    key(least, word(rows[at]), word(rows[at + field]))
+    key(least, u64::from(rows[at]), u64::from(rows[at + field]))
 }
 
 fn clear(list: &mut [u16; LIST])
@@ -70,26 +62,50 @@ pub fn build(rows: &[u32; SHEET], least: u64, field: usize, count: usize, list: 
     ensures { Indexed (key_at rows.now least field) count list.new }
 {
     clear(&mut *list);
-    let mut i = count;
-    while 0 < i {
-        i -= 1;
+    for i in (0..count).rev() {
         let k = key_at(rows, least, field, i);
         list[BUCKETS + i] = list[k];
         list[k] = i as u16;
     }
 }
 
-// Where the list of the point z starts.
-pub fn start(list: &[u16; LIST], z: usize) -> usize
-    ensures { result ≡ start_of list.now z }
-{
-    wide(list[z % BUCKETS])
+// A walk along a list: where it is, and how many records it may still give, so that it ends whatever the list holds.
+#[derive(Drop)]
+pub struct Walk<'a> {
+    list: &'a [u16; LIST],
+    at: usize,
+    left: usize,
 }
 
-// Where a walk goes on from the record i, with so many entries left that it may still read.
-pub fn onward(list: &[u16; LIST], i: usize, left: usize) -> usize
-    requires { i < most_records }
-    ensures { result ≡ onward_of list.now i left }
+impl<'a> Iterator for Walk<'a> {
+    type Item = usize;
+
+    ghost next_gives = { YieldsFirst still_ahead };
+
+    ghost remaining = { item_count still_ahead };
+
+    // The record where the walk is; it goes on to the next of the same list.
+    fn next(&mut self) -> Option<usize> {
+        if self.left == 0 {
+            return None;
+        }
+        if MOST_RECORDS <= self.at {
+            return None;
+        }
+        let i = self.at;
+        self.left -= 1;
+        self.at = usize::from(self.list[BUCKETS + i]);
+        Some(i)
+    }
+}
+
+// The records of the list of the point z, in order.
+pub fn entries(list: &[u16; LIST], z: usize) -> Walk<'_>
+    ensures { still_ahead result ≡ entries_of list.now z }
 {
-    pick(0 < left, wide(list[BUCKETS + i]), MOST_RECORDS)
+    Walk {
+        list,
+        at: usize::from(list[z % BUCKETS]),
+        left: MOST_RECORDS,
+    }
 }

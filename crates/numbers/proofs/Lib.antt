@@ -1,3 +1,2 @@
 -- The modules of proofs that belong to no one function. Other crates cite the ones that are `pub`.
-mod Signs
 pub mod Words

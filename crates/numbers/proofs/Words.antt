@@ -11,8 +11,16 @@ use lib.Signed.{mag}
 use lib.ListN.{get_or}
 use borrow.Author.Tests.{lt-ltb, le-ltb}
 use Rattle.std.specs.Prelude.{if◌then◌else◌}
+use Rattle.std.specs.Int.{to_le_bytes, w32}
 use Rattle.numbers.specs.Fits.{All, IsByte}
 use Rattle.numbers.specs.Numbers.{word_at, word_bytes, signed_of, bits_of}
+
+-- std's four bytes of a number, the lowest first, are these.
+pub le_bytes : (n : ℕ) → to_le_bytes w32 n ≡ word_bytes n
+le_bytes n =
+    let e : n / 65536 ≡ n / 256 / 256 = omega arith in
+    let f : n / 16777216 ≡ n / 256 / 256 / 256 = omega arith in
+    rw (e, f)
 
 -- The four bytes of a number that fits thirty-two bits stand for that number.
 pub word_back : (n : ℕ) → n < 2 ^ 32 → (rest : List ℕ) → word_at (word_bytes n ++ rest) 0 ≡ n

@@ -1,12 +1,10 @@
-// Numbers: four bytes little-endian, thirty-two bits as a signed number and back, the tests of signed numbers, and what one
-// adds or takes away. Nothing else in the library touches a signed number. An inner room: it serves our own crates, and
-// `word_at` asks its caller that the four bytes are there.
+// Numbers: four bytes little-endian, thirty-two bits as a signed number and back, and what a signed number adds or takes away. An
+// inner room: it serves our own crates, and `word_at` asks its caller that the four bytes are there.
 
 #![tactic(auto)]
 
 ghost use Rattle.std.specs.Prelude.{◌≡◌, ◌+◌, ◌≤◌, length};
-ghost use Rattle.std.specs.Int.Signed.{le_z, lt_z};
-ghost use Rattle.numbers.specs.Numbers.{word_at, signed_of, bits_of, is_nought, gap_of};
+ghost use Rattle.numbers.specs.Numbers.{word_at, signed_of, bits_of, gap_of};
 
 // A signed number as what it adds and what it takes away.
 #[derive(Clone, Copy)]
@@ -15,75 +13,36 @@ pub struct Gap {
     pub down: u32,
 }
 
-// A byte as a number.
-pub fn wide(x: u8) -> u32
-    ensures { (result ≡ x) × (result ≤ 255) }
-{
-    x as u32
-}
-
 // The number that four bytes stand for.
 pub fn word_at(bytes: &[u8], at: usize) -> u32
     requires { at + 4 ≤ length bytes.now }
     ensures { result ≡ word_at bytes.now at }
 {
-    wide(bytes[at])
-        + 256 * (wide(bytes[at + 1]) + 256 * (wide(bytes[at + 2]) + 256 * wide(bytes[at + 3])))
+    u32::from_le_bytes([bytes[at], bytes[at + 1], bytes[at + 2], bytes[at + 3]])
 }
 
 // Thirty-two bits, read as signed.
 pub fn signed(x: u32) -> i32
     ensures { result ≡ signed_of x }
 {
-    if x < 2147483648 {
-        x as i32
-    } else {
-        let m = 4294967295 - x;
-        -1 - (m as i32)
-    }
+    x.cast_signed()
 }
 
 // The thirty-two bits of a signed number.
 pub fn bits(x: i32) -> u32
     ensures { result ≡ bits_of x }
 {
-    if x < 0 {
-        let m = -1 - x;
-        4294967295 - (m as u32)
-    } else {
-        x as u32
-    }
-}
-
-pub fn at_most(x: i32, y: i32) -> bool
-    ensures { result ≡ le_z x y }
-{
-    x <= y
-}
-
-pub fn less(x: i32, y: i32) -> bool
-    ensures { result ≡ lt_z x y }
-{
-    x < y
-}
-
-pub fn is_nought(x: i32) -> bool
-    ensures { result ≡ is_nought x }
-{
-    x == 0
+    x.cast_unsigned()
 }
 
 // A signed number's parts: what it adds where it is not negative, what it takes away where it is.
 pub fn split(d: i32) -> Gap
     ensures { result ≡ gap_of d }
 {
-    let b = bits(d);
-    if b < 2147483648 {
-        Gap { up: b, down: 0 }
+    let size = d.unsigned_abs();
+    if d < 0 {
+        Gap { up: 0, down: size }
     } else {
-        Gap {
-            up: 0,
-            down: 4294967295 - b + 1,
-        }
+        Gap { up: size, down: 0 }
     }
 }

@@ -12,7 +12,9 @@ use Rattle.values.specs.Ascii.{ascii}
 use Rattle.values.specs.Values.{same, kind_of, all_digits, value_from, is_negative, unsigned, is_shaped, shaped_code}
 use Rattle.fields.specs.Quoting.{fields_from}
 use Rattle.office.specs.Sheets.{begins_lf, before, pieces, without_rest, readable, record_of, row_of, read_as, import_rows, import_of}
-use Rattle.office.specs.declared.Imported.{Imported}
+use Rattle.std.specs.Prelude.{Result, Ok, Err}
+use Rattle.plan.specs.declared.Plan.{Plan}
+use Rattle.office.specs.declared.Refused.{Refused}
 
 infix 70 ◌gives◌at◌
 -- a text, a number and a line
@@ -24,9 +26,10 @@ unless_right : Bool → Case → List Case → List Case
 unless_right true c cs = cs
 unless_right false c cs = c ∷ cs
 
-answered : String → ℕ → ℕ → Imported → List Case → List Case
+answered : String → ℕ → ℕ → Result Plan Refused → List Case → List Case
 unfolding unless_right
-answered t n l x cs = unless_right (eqb x.number n && eqb x.line l) (t gives x.number at x.line) cs
+answered t n l (Ok p) cs = unless_right (eqb 0 n && eqb 0 l) (t gives 0 at 0) cs
+answered t n l (Err x) cs = unless_right (eqb x.number n && eqb x.line l) (t gives x.number at x.line) cs
 
 -- the rows that are wrong, with what is right
 wrong : List Case → List Case

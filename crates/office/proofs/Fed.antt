@@ -29,7 +29,9 @@ use Rattle.office.specs.Sheets.{Row, bad, good, row_of, rows_of, pieces, without
 use Rattle.office.specs.Inside.{first_line, end_from, as_line, line_by}
 use Rattle.office.specs.Feeding.{line_begins, begun, stopped, counted, cells_with, lined, stepped, fed_byte, fed_of, fed_all, joined_text, last_of, answered, finished_of}
 use Rattle.office_text.specs.declared.Feeding.{Feeding}
-use Rattle.office.specs.declared.Imported.{Imported}
+use Rattle.office.specs.declared.Refused.{Refused}
+use Rattle.std.specs.Prelude.{Result}
+use Rattle.plan.specs.declared.Plan.{Plan}
 use Rattle.office.proofs.Lines.{ends_is, end_moves, lines_first}
 use Rattle.office.proofs.Rows.{seen_of, Cells, line_by_lem, store}
 use Rattle.office.proofs.Judged.{Records, with_record_lem, judged_is}
@@ -95,7 +97,7 @@ line_on c s n =
     (rw e, rw (e, end_moves 1 s, z))
 
 -- the answer by the records before the line, the fields before the one that has begun, its bytes, and the text from there on
-abbrev whole : List Record → List (List ℕ) → List ℕ → Place → List ℕ → Imported
+abbrev whole : List Record → List (List ℕ) → List ℕ → Place → List ℕ → Result Plan Refused
 whole done gone part p t = import_rows done (row_of (in_front gone (with_bytes part (fields_from p (first_line t)))) ∷ rows_of (lines_of (rest t)))
 
 -- nothing is kept of nothing
@@ -141,7 +143,7 @@ goes_on_lem Closed c = go (eqb c quote) (eqb c comma)
 abbrev most : ℕ
 most = 18446744073709551616
 
-module _ (answer : Imported) where
+module _ (answer : Result Plan Refused) where
   -- inside a line, t being what is still to come
   record Inside (n : ℕ) (records : List Record) (k : ℕ) (cells : List Seen) (p : Place) (u : Seen) (t : List ℕ) : Type 0 where
     done : List Record

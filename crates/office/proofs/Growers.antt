@@ -23,7 +23,9 @@ use Rattle.plan.proofs.Holding.{plan_held}
 use Rattle.plan.proofs.RoundTrip.{records_of_plan, checked_count, names_no_place, reads_as_checked, written_reads_whole}
 use Rattle.office.specs.Sheets.{Columns, broken, columns, fields_of, lines_of, Row, bad, good, column, is_kind, is_point, is_number, is_code, readable, record_of, row_of, line_row, rows_of, refused, taken, read_as, import_rows, import_of}
 use Rattle.office.specs.Promised.{line_of, Says, Imports, StopsBy}
-use Rattle.office.specs.declared.Imported.{Imported}
+use Rattle.std.specs.Prelude.{Result, Ok, Err}
+use Rattle.office.specs.declared.Refused.{Refused}
+use Rattle.plan.specs.declared.Plan.{Plan}
 
 -- ---- one line
 
@@ -107,15 +109,15 @@ goods_one rs l ls r e g =
       answer = rw e (g.answer ∙ ap read_as (append_snoc rs r g.records));
     }
 
-goods : (rs : List Record) (ls : List (List ℕ)) → (import_rows rs (rows_of ls)).number ≡ 0 → Goods rs ls
+goods : (rs : List Record) (ls : List (List ℕ)) (p : Plan) → import_rows rs (rows_of ls) ≡ Ok p → Goods rs ls
 unfolding import_rows
-goods rs [] e = record { records = []; rows = refl; answer = ap read_as (sym (append-nil rs)) }
-goods rs (l ∷ ls) e = go (line_row l) refl e (λ r. goods (rs ++ (r ∷ [])) ls)
+goods rs [] p e = record { records = []; rows = refl; answer = ap read_as (sym (append-nil rs)) }
+goods rs (l ∷ ls) p e = go (line_row l) refl e (λ r. goods (rs ++ (r ∷ [])) ls p)
   where
-    go : (x : Row) → line_row l ≡ x → (import_rows rs (x ∷ rows_of ls)).number ≡ 0
-        → ((r : Record) → (import_rows (rs ++ (r ∷ [])) (rows_of ls)).number ≡ 0 → Goods (rs ++ (r ∷ [])) ls) → Goods rs (l ∷ ls)
-    go (bad n) p q h = absurd (let b = bad_number (fields_of l) n p in omega (arith, b.0))
-    go (good r) p q h = goods_one rs l ls r p (h r q)
+    go : (x : Row) → line_row l ≡ x → import_rows rs (x ∷ rows_of ls) ≡ Ok p
+        → ((r : Record) → import_rows (rs ++ (r ∷ [])) (rows_of ls) ≡ Ok p → Goods (rs ++ (r ∷ [])) ls) → Goods rs (l ∷ ls)
+    go (bad n) i q h = absurd (let z : ◌≡◌ {A = ℕ} 0 1 = cc in omega arith)
+    go (good r) i q h = goods_one rs l ls r i (h r q)
 
 -- the k-th line is the k-th record
 goods_at : (ls : List (List ℕ)) (rs : List Record) → rows_of ls ≡ map good rs → (k : ℕ) → k < length ls → line_row (get_or ls k []) ≡ good (get_or rs k blank)
@@ -130,14 +132,18 @@ goods_held [] (r ∷ rs) e = absurd (let z : ◌≡◌ {A = ℕ} 0 1 = cc in ome
 goods_held (l ∷ ls) (r ∷ rs) e = (record_held l r (line_good l r (cc)), goods_held ls rs (cc))
 
 -- what is read without a refusal
-read_as_lem : (rs : List Record) → (read_as rs).number ≡ 0 → ((check_of (plan_of rs)).number ≡ 0) × (read_as rs ≡ taken rs)
+read_as_lem : (rs : List Record) (p : Plan) → read_as rs ≡ Ok p → ((check_of (plan_of rs)).number ≡ 0) × (p ≡ plan_of rs)
 unfolding read_as
-read_as_lem rs e = go (eqb (check_of (plan_of rs)).number 0) refl e
+read_as_lem rs p e = go (eqb (check_of (plan_of rs)).number 0) refl e
   where
-    go : (b : Bool) → eqb (check_of (plan_of rs)).number 0 ≡ b → (if b then taken rs else refused (check_of (plan_of rs))).number ≡ 0
-        → ((check_of (plan_of rs)).number ≡ 0) × ((if b then taken rs else refused (check_of (plan_of rs))) ≡ taken rs)
-    go true p q = (eqb-true _ 0 p, refl)
-    go false p q = absurd (let z : eqb (check_of (plan_of rs)).number 0 ≡ true = rw q in let y : ◌≡◌ {A = ℕ} 0 1 = cc in omega arith)
+    plan : Result Plan Refused → Plan
+    plan (Ok x) = x
+    plan (Err x) = p
+
+    go : (b : Bool) → eqb (check_of (plan_of rs)).number 0 ≡ b → (if b then taken rs else refused (check_of (plan_of rs))) ≡ Ok p
+        → ((check_of (plan_of rs)).number ≡ 0) × (p ≡ plan_of rs)
+    go true i q = (eqb-true _ 0 i, sym (ap plan q))
+    go false i q = absurd (let y : ◌≡◌ {A = ℕ} 0 1 = cc in omega arith)
 
 says : (s : List ℕ) (k : ℕ) (r : Record) → Six (line_of k s) r → Says s k r
 unfolding record_of readable
@@ -175,23 +181,22 @@ imports s rs g c =
     }
 
 -- An accepted text: a record for each line, the k-th line's fields being the k-th record's, and the file reader accepts the plan.
-pub accepted_imports : (s : List ℕ) → (import_of s).number ≡ 0 → Imports s (import_of s).plan
-accepted_imports s e =
-    let g = goods [] (lines_of s) e in
+pub accepted_imports : (s : List ℕ) (p : Plan) → import_of s ≡ Ok p → Imports s p
+accepted_imports s p e =
+    let g = goods [] (lines_of s) p e in
     let rs = g.records in
-    let n : (read_as rs).number ≡ 0 = ap (λ (x : Imported). x.number) (sym g.answer) ∙ e in
-    let c = read_as_lem rs n in
-    let p : (import_of s).plan ≡ plan_of rs = ap (λ (x : Imported). x.plan) (g.answer ∙ c.1) in
-    rw p (imports s rs g.rows c.0)
+    let c = read_as_lem rs p (sym g.answer ∙ e) in
+    rw c.1 (imports s rs g.rows c.0)
 
 -- ---- a bad line
 
 -- the answer behind the records rs, where line k of the rest is bad
-record Stopped (rs : List Record) (x : Imported) (k : ℕ) : Type 0 where
-  from : 40 ≤ x.number
-  to : x.number ≤ 43
-  line : x.line ≤ length rs + k
-  plan : x.plan ≡ plan_of []
+record Stopped (rs : List Record) (x : Result Plan Refused) (k : ℕ) : Type 0 where
+  refusal : Refused
+  refuses : x ≡ Err refusal
+  from : 40 ≤ refusal.number
+  to : refusal.number ≤ 43
+  line : refusal.line ≤ length rs + k
 
 stopped : (rs : List Record) (ls : List (List ℕ)) (k n : ℕ) → k < length ls → line_row (get_or ls k []) ≡ bad n → Stopped rs (import_rows rs (rows_of ls)) k
 unfolding import_rows
@@ -203,20 +208,20 @@ stopped rs (l ∷ ls) k n h e = go (line_row l) refl k h e (λ r k h e. stopped 
         → Stopped rs (import_rows rs (x ∷ rows_of ls)) k
     go (bad m) p k h e on =
         let b = bad_number (fields_of l) m p in
-        record { from = b.0; to = b.1; line = omega arith; plan = refl }
+        record { refusal = record { number = m; line = length rs }; refuses = refl; from = b.0; to = b.1; line = omega arith }
     go (good r) p zero h e on = absurd (let q : good r ≡ bad n = sym p ∙ e in let z : ◌≡◌ {A = ℕ} 0 1 = cc in omega arith)
     go (good r) p (suc k) h e on =
         let y = on r k (omega arith) e in
         let w = length-append rs (r ∷ []) in
         let i = y.line in
-        record { from = y.from; to = y.to; line = omega arith; plan = y.plan }
+        record { refusal = y.refusal; refuses = y.refuses; from = y.from; to = y.to; line = omega arith }
 
 -- A bad line stops the import there or before it, whatever its number and whatever stands behind it, and no record is handed back.
 pub bad_line_stops : (s : List ℕ) (k n : ℕ) → k < length (lines_of s) → line_row (line_of k s) ≡ bad n → StopsBy s k
 bad_line_stops s k n h e =
     let y = stopped [] (lines_of s) k n h e in
     let i = y.line in
-    record { from = y.from; to = y.to; line = omega arith; plan = y.plan }
+    record { refusal = y.refusal; refuses = y.refuses; from = y.from; to = y.to; line = omega arith }
 
 first_bad_lem : (rs : List Record) (ls : List (List ℕ)) (k n : ℕ) → k < length ls → ((j : ℕ) → j < k → (r : Record) × (line_row (get_or ls j []) ≡ good r))
     → line_row (get_or ls k []) ≡ bad n → import_rows rs (rows_of ls) ≡ refused (refusal n (length rs + k))

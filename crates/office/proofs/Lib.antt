@@ -6,6 +6,5 @@ mod Filling
 mod Rows
 mod Judged
 pub mod Fed
-mod Finishing
 pub mod Growers
 pub mod Sayable

@@ -17,7 +17,7 @@ use Rattle.fields.specs.Quoting.{columns}
 use Rattle.office.specs.Sheets.{bad, good, readable, record_of, row_of, is_kind, is_point, is_number, is_code}
 use Rattle.office.specs.Inside.{as_line, readable_in, record_in, line_by}
 use Rattle.office.specs.Feeding.{cells_with}
-use Rattle.cells.specs.declared.Line.TheVariants.{Good, Bad}
+use Rattle.std.specs.Prelude.{Ok, Err}
 use Rattle.office.proofs.Filling.{fill}
 
 -- what is kept of a field
@@ -60,10 +60,10 @@ module _ (k a b x y p : List ℕ) (hk : All IsByte k) (ha : All IsByte a) (hb : 
   six_line = rw (six_readable, says_code p (seen_of p) (tells_all p hp) hp) (go (readable six) refl (is_code p) refl)
     where
       go : (t : Bool) → readable six ≡ t → (u : Bool) → is_code p ≡ u
-          → (if not t then Bad 42 else (if not u then Bad 43 else Good (record_in (map seen_of six)))) ≡ as_line (if not t then bad 42 else (if not u then bad 43 else good (record_of six)))
+          → (if not t then Err 42 else (if not u then Err 43 else Ok (record_in (map seen_of six)))) ≡ as_line (if not t then bad 42 else (if not u then bad 43 else good (record_of six)))
       go false e u c = refl
       go true e false c = refl
-      go true e true c = ap Good (six_record e c)
+      go true e true c = ap Ok (six_record e c)
 
 -- the cells of the columns so far, as far as there is room
 abbrev pub Cells : List (List ℕ) → List Seen → Type 0

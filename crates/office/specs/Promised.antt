@@ -1,12 +1,13 @@
 -- The few words more that the theorems on imported texts are said with. Definitions only. Assumes nothing.
-use Rattle.std.specs.Prelude.{◌≡◌, true, List, [], ℕ, ◌*◌, ◌≤◌, ◌<◌, length, get_or, take}
+use Rattle.std.specs.Prelude.{◌≡◌, true, Err, List, [], ℕ, ◌*◌, ◌≤◌, ◌<◌, length, get_or, take}
 use Rattle.records.specs.Records.{blank}
 use Rattle.records.specs.declared.Record.{Record}
 use Rattle.plan.specs.Limits.{record_bytes}
-use Rattle.plan.specs.APlan.{records_of, plan_of}
+use Rattle.plan.specs.APlan.{records_of}
 use Rattle.plan.specs.PlanFile.{file_of}
-use Rattle.plan.specs.ReplyNumbers.{accepted, check_of, read_of, write_of, written_of}
+use Rattle.plan.specs.ReplyNumbers.{accepted, check_of, read_of, write_of, written_of, number_in, plan_in}
 use Rattle.plan.specs.declared.Plan.{Plan}
+use Rattle.office.specs.declared.Refused.{Refused}
 use Rattle.office.specs.Sheets.{columns, fields_of, lines_of, column, import_of}
 use Rattle.office.specs.Sheets.{is_kind, kind_of, point_of, number_of, is_code, code_of}
 
@@ -34,13 +35,14 @@ pub record Imports (s : List ℕ) (p : Plan) : Type 0 where
   pub count : p.count ≡ length (lines_of s)
   pub says : (k : ℕ) → k < length (lines_of s) → Says s k (get_or (records_of p) k blank)
   pub checked : check_of p ≡ accepted
-  pub number : (read_of (file_of p)).number ≡ 0
-  pub reads : (read_of (file_of p)).plan ≡ p
-  pub written : (out : List ℕ) → (write_of p out).number ≡ 0 → (read_of (take (record_bytes * p.count) (written_of p out))).plan ≡ p
+  pub number : number_in (read_of (file_of p)) ≡ 0
+  pub reads : plan_in (read_of (file_of p)) ≡ p
+  pub written : (out : List ℕ) → (write_of p out).number ≡ 0 → plan_in (read_of (take (record_bytes * p.count) (written_of p out))) ≡ p
 
--- the import stops at line k or before it: a number of a line, and no record
+-- the import stops at line k or before it: a number of a line, and no plan
 pub record StopsBy (s : List ℕ) (k : ℕ) : Type 0 where
-  pub from : 40 ≤ (import_of s).number
-  pub to : (import_of s).number ≤ 43
-  pub line : (import_of s).line ≤ k
-  pub plan : (import_of s).plan ≡ plan_of []
+  pub refusal : Refused
+  pub refuses : import_of s ≡ Err refusal
+  pub from : 40 ≤ refusal.number
+  pub to : refusal.number ≤ 43
+  pub line : refusal.line ≤ k

@@ -1,11 +1,12 @@
 -- Document 02, §1: what importing a text answers. A line's fields are those of RFC 4180 (`fields`), and what a field says is handed
 -- on from `values`. Number 0 is no number of the document: it says that nothing is refused. Assumes nothing.
-use Rattle.std.specs.Prelude.{Bool, false, ◌&&◌, not, List, [], ◌∷◌, ◌++◌, map, ℕ, eqb, length, drop, get_or, if◌then◌else◌}
+use Rattle.std.specs.Prelude.{Bool, false, ◌&&◌, not, List, Result, Ok, Err, [], ◌∷◌, ◌++◌, map, ℕ, eqb, length, drop, get_or, if◌then◌else◌}
 use Rattle.records.specs.declared.Record.{Record}
 use Rattle.plan.specs.APlan.{plan_of}
 use Rattle.plan.specs.ReplyNumbers.{refusal, check_of}
+use Rattle.plan.specs.declared.Plan.{Plan}
 use Rattle.plan.specs.declared.Refusal.{Refusal}
-use Rattle.office.specs.declared.Imported.{Imported}
+use Rattle.office.specs.declared.Refused.{Refused}
 pub use Rattle.values.specs.Values.{is_kind, is_point, point_of, is_number, number_of, is_code, code_of, is_empty}
 unfoldable pub use Rattle.values.specs.Values.{kind_of, is_shaped, shaped_code}
 pub use Rattle.fields.specs.Quoting.{Columns, broken, columns, cr, lf, fields_of}
@@ -79,25 +80,25 @@ line_row l = row_of (fields_of l)
 abbrev pub rows_of : List (List ℕ) → List Row
 rows_of ls = map line_row ls
 
--- a refusal hands back a plan without records
-abbrev pub refused : Refusal → Imported
-refused x = record { number = x.number; line = x.place; plan = plan_of [] }
+-- a refusal hands back no plan
+abbrev pub refused : Refusal → Result Plan Refused
+refused x = Err (record { number = x.number; line = x.place })
 
-abbrev pub taken : List Record → Imported
-taken rs = record { number = 0; line = 0; plan = plan_of rs }
+abbrev pub taken : List Record → Result Plan Refused
+taken rs = Ok (plan_of rs)
 
 -- "then the reader's own numbers": what reading the records would give
-unfoldable pub read_as : List Record → Imported
+unfoldable pub read_as : List Record → Result Plan Refused
 read_as rs =
     if eqb (check_of (plan_of rs)).number 0 then taken rs
     else refused (check_of (plan_of rs))
 
 -- the rows in order behind the records rs: "first bad line first", its number and its line, counted from 0
-unfoldable pub import_rows : List Record → List Row → Imported
+unfoldable pub import_rows : List Record → List Row → Result Plan Refused
 import_rows rs [] = read_as rs
 import_rows rs (bad n ∷ rows) = refused (refusal n (length rs))
 import_rows rs (good r ∷ rows) = import_rows (rs ++ (r ∷ [])) rows
 
 -- what importing a text answers
-abbrev pub import_of : List ℕ → Imported
+abbrev pub import_of : List ℕ → Result Plan Refused
 import_of s = import_rows [] (rows_of (lines_of s))

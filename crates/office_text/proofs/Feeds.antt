@@ -19,11 +19,10 @@ use Rattle.fields.specs.declared.Spot.{Spot}
 use Rattle.fields.specs.declared.Step.{Step}
 use Rattle.fields.specs.declared.Step.TheVariants.{On, Comma, Ends, Broken}
 use Rattle.fields.specs.declared.Walk.{Walk}
-use Rattle.office_text.specs.Feeding.{line_number, stopped, counted, cells_with, stepped, fed_byte, fed_of}
+use Rattle.office_text.specs.Feeding.{stopped, counted, cells_with, stepped, fed_byte, fed_of}
 use Rattle.office_text.specs.declared.Feeding.{Feeding}
 use Rattle.cells.specs.Rows.{cell, readable_in, record_in, line_by}
-use Rattle.cells.specs.declared.Line.{Line}
-use Rattle.cells.specs.declared.Line.TheVariants.{Good, Bad}
+use Rattle.std.specs.Prelude.{Result, Ok, Err}
 
 -- nothing is bad so far
 abbrev pub open' : ℕ → List Record → ℕ → List Seen → Spot → Feeding
@@ -40,11 +39,11 @@ stays f [] h = refl
 stays f (c ∷ s) h = rw (ne_eqb f.number 0 h) (stays f s h)
 
 -- the number of a bad line is none that stands for nothing
-bad_line : (k : ℕ) (cells : List Seen) (m : ℕ) → line_by k cells ≡ Bad m → m ≡ 0 → ⊥
+bad_line : (k : ℕ) (cells : List Seen) (m : ℕ) → line_by k cells ≡ Err m → m ≡ 0 → ⊥
 unfolding line_by
 bad_line k cells m e z = go (eqb k 5) (readable_in cells) (code_in (cell 5 cells)) e
   where
-    go : (a b c : Bool) → (if not a then Bad 41 else (if not b then Bad 42 else (if not c then Bad 43 else Good (record_in cells)))) ≡ Bad m → ⊥
+    go : (a b c : Bool) → (if not a then Err 41 else (if not b then Err 42 else (if not c then Err 43 else Ok (record_in cells)))) ≡ Err m → ⊥
     go false b c e = let q : 41 ≡ m = cc in omega arith
     go true false c e = let q : 42 ≡ m = cc in omega arith
     go true true false e = let q : 43 ≡ m = cc in omega arith
@@ -124,7 +123,7 @@ module _ (piece : List ℕ) (i n : ℕ) (rs : List Record) (k : ℕ) (cells : Li
     feeds_comma e k' p b y = rw (p, y) (feeds_on Comma e)
 
     -- a whole line
-    pub feeds_line : x.step ≡ Ends → (l : Line) → l ≡ line_by k (cells_with k cells x.spot.seen) → (r : Record) → l ≡ Good r → (n' : ℕ) → n' ≡ counted n → (u : Seen) → u ≡ fresh
+    pub feeds_line : x.step ≡ Ends → (l : Result Record ℕ) → l ≡ line_by k (cells_with k cells x.spot.seen) → (r : Record) → l ≡ Ok r → (n' : ℕ) → n' ≡ counted n → (u : Seen) → u ≡ fresh
         → (b : Spot) → b ≡ beginning → fed_of (open' n' (set rs (n % most_records) r) 0 (replicate 6 u) b) (drop x.next piece) ≡ w
     feeds_line e l j r g n' p u y b z = rw (p, y, z) (rw (← j, g) at (feeds_on Ends e))
 
@@ -135,7 +134,7 @@ module _ (piece : List ℕ) (i n : ℕ) (rs : List Record) (k : ℕ) (cells : Li
     pub feeds_broken : x.step ≡ Broken → (g : Feeding) → g ≡ stopped 40 n → g ≡ w
     feeds_broken e g p = p ∙ feeds_stop 40 (λ q. omega arith) (rw e)
 
-    pub feeds_bad : x.step ≡ Ends → (l : Line) → l ≡ line_by k (cells_with k cells x.spot.seen) → (m : ℕ) → l ≡ Bad m → (v : ℕ) → v ≡ line_number l → (g : Feeding) → g ≡ stopped v n → g ≡ w
-    feeds_bad e l j m z v y g p =
-        let d : line_by k (cells_with k cells x.spot.seen) ≡ Bad m = sym j ∙ z in
-        p ∙ rw (y, z) (feeds_stop m (bad_line k (cells_with k cells x.spot.seen) m d) (rw (e, d)))
+    pub feeds_bad : x.step ≡ Ends → (l : Result Record ℕ) → l ≡ line_by k (cells_with k cells x.spot.seen) → (m : ℕ) → l ≡ Err m → (g : Feeding) → g ≡ stopped m n → g ≡ w
+    feeds_bad e l j m z g p =
+        let d : line_by k (cells_with k cells x.spot.seen) ≡ Err m = sym j ∙ z in
+        p ∙ feeds_stop m (bad_line k (cells_with k cells x.spot.seen) m d) (rw (e, d))

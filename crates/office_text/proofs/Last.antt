@@ -8,9 +8,8 @@ use borrow.Author.Tests.{not-true, not-false}
 use Rattle.records.specs.Limits.{most_records}
 use Rattle.records.specs.declared.Record.{Record}
 use Rattle.fields.specs.Inside.{is_at_begin, may_end}
-use Rattle.cells.specs.declared.Line.{Line}
-use Rattle.cells.specs.declared.Line.TheVariants.{Good, Bad}
-use Rattle.office_text.specs.Feeding.{line_by, line_number, line_begins, stopped, counted, cells_with, lined, last_of}
+use Rattle.std.specs.Prelude.{Result, Ok, Err}
+use Rattle.office_text.specs.Feeding.{line_by, line_begins, stopped, counted, cells_with, lined, last_of}
 use Rattle.office_text.specs.declared.Feeding.{Feeding}
 
 -- t says whether a field begins there
@@ -27,13 +26,13 @@ module _ (f : Feeding) (t : Bool) (is : t ≡ is_at_begin f.spot) where
     unfolding last_of
     last_broken h g x = x ∙ rw (rw is at e, rw may at (not-true m h))
 
-    module _ (h : not m ≡ false) (l : Line) (by : l ≡ line_by f.commas (cells_with f.commas f.cells f.spot.seen)) where
+    module _ (h : not m ≡ false) (l : Result Record ℕ) (by : l ≡ line_by f.commas (cells_with f.commas f.cells f.spot.seen)) where
       line : lined f.lines f.records l ≡ last_of f
       unfolding last_of
       line = rw (rw is at e, rw may at (not-false m h), by)
 
-      pub last_bad : (n : ℕ) → l ≡ Bad n → (v : ℕ) → v ≡ line_number l → (g : Feeding) → g ≡ stopped v f.lines → g ≡ last_of f
-      last_bad n z v y g x = x ∙ rw (y, z) (rw z at line)
+      pub last_bad : (n : ℕ) → l ≡ Err n → (g : Feeding) → g ≡ stopped n f.lines → g ≡ last_of f
+      last_bad n z g x = x ∙ rw z at line
 
-      pub last_good : (r : Record) → l ≡ Good r → (n : ℕ) → n ≡ counted f.lines → (g : Feeding) → g ≡ line_begins n (set f.records (f.lines % most_records) r) → g ≡ last_of f
+      pub last_good : (r : Record) → l ≡ Ok r → (n : ℕ) → n ≡ counted f.lines → (g : Feeding) → g ≡ line_begins n (set f.records (f.lines % most_records) r) → g ≡ last_of f
       last_good r z n y g x = x ∙ rw y (rw z at line)

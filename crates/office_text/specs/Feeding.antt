@@ -1,7 +1,7 @@
 -- A text that comes in pieces, cut anywhere, also between a CR and its LF: what is known of it so far, with a byte more, and with a last
 -- line that lacks its end. What that answers is office/specs/Feeding, and that it is `import_of` of the pieces together a theorem
 -- (office/proofs/Fed). Assumes nothing.
-use Rattle.std.specs.Prelude.{Bool, ◌&&◌, ◌||◌, not, List, [], ◌∷◌, ◌++◌, ℕ, ◌+◌, ◌%◌, min, eqb, set, replicate, if◌then◌else◌}
+use Rattle.std.specs.Prelude.{Bool, ◌&&◌, ◌||◌, not, List, Result, Ok, Err, [], ◌∷◌, ◌++◌, ℕ, ◌+◌, ◌%◌, min, eqb, set, replicate, if◌then◌else◌}
 use Rattle.records.specs.Limits.{most_records}
 use Rattle.records.specs.Records.{blank}
 use Rattle.records.specs.declared.Record.{Record}
@@ -10,15 +10,8 @@ use Rattle.values.specs.declared.Seen.{Seen}
 use Rattle.fields.specs.Inside.{beginning, is_at_begin, may_end, step_of}
 use Rattle.fields.specs.declared.Step.{Step}
 use Rattle.fields.specs.declared.Step.TheVariants.{On, Comma, Ends, Broken}
-use Rattle.cells.specs.declared.Line.{Line}
-use Rattle.cells.specs.declared.Line.TheVariants.{Good, Bad}
 use Rattle.office_text.specs.declared.Feeding.{Feeding}
 unfoldable pub use Rattle.cells.specs.Rows.{line_by}
-
--- a line's number, 0 where it is a record
-abbrev pub line_number : Line → ℕ
-line_number (Good r) = 0
-line_number (Bad n) = n
 
 -- where a line begins, behind so many others
 abbrev pub line_begins : ℕ → List Record → Feeding
@@ -42,9 +35,9 @@ abbrev pub cells_with : ℕ → List Seen → Seen → List Seen
 cells_with commas cells s = set cells (commas % 6) s
 
 -- with a whole line
-abbrev pub lined : ℕ → List Record → Line → Feeding
-lined n rs (Good r) = line_begins (counted n) (set rs (n % most_records) r)
-lined n rs (Bad m) = stopped m n
+abbrev pub lined : ℕ → List Record → Result Record ℕ → Feeding
+lined n rs (Ok r) = line_begins (counted n) (set rs (n % most_records) r)
+lined n rs (Err m) = stopped m n
 
 -- with a step more
 abbrev pub stepped : Feeding → Step → Feeding

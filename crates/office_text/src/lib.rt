@@ -5,10 +5,10 @@
 
 #![tactic(auto)]
 
-ghost use Rattle.std.specs.Prelude.{◌≡◌, ◌+◌, min};
-ghost use Rattle.office_text.specs.Feeding.{line_by, line_number, begun, line_begins, stopped, cells_with, fed_of, last_of};
+ghost use Rattle.std.specs.Prelude.{◌≡◌};
+ghost use Rattle.office_text.specs.Feeding.{line_by, begun, line_begins, stopped, cells_with, fed_of, last_of};
 
-use cells::{COLUMNS, Line, line_by};
+use cells::{COLUMNS, line_by};
 use fields::{Spot, Step, walk_from};
 use records::{MOST_RECORDS, Record, no_records};
 use rules::ACCEPTED;
@@ -19,6 +19,7 @@ pub const BROKEN_QUOTING: u32 = 40;
 
 // What is known of a text that has come so far: a number and the first bad line, which stand; or number 0, the lines that are whole
 // and their records, and of the line that has begun its commas, its columns and where it is.
+// It is fed on, refused or not, and keeps its line: so no Result.
 #[derive(Clone, Copy)]
 pub struct Feeding {
     pub number: u32,
@@ -30,7 +31,7 @@ pub struct Feeding {
 }
 
 // A line whose last column is this one, behind so many commas.
-fn line_of(commas: usize, cells: [Seen; COLUMNS], seen: Seen) -> Line
+fn line_of(commas: usize, cells: [Seen; COLUMNS], seen: Seen) -> Result<Record, u32>
     ensures { result ≡ line_by commas (cells_with commas cells seen) }
 {
     let mut all = cells;
@@ -38,36 +39,18 @@ fn line_of(commas: usize, cells: [Seen; COLUMNS], seen: Seen) -> Line
     line_by(commas, all)
 }
 
-fn number_in(line: Line) -> u32
-    ensures { result ≡ line_number line }
-{
-    match line {
-        Line::Good(_) => ACCEPTED,
-        Line::Bad(n) => n,
-    }
-}
-
-// One more, and the most that there is room for where there are more.
-fn one_more(n: usize, most: usize) -> usize
-    ensures { result ≡ min (n + 1) most }
-{
-    if n < most { n + 1 } else { most }
-}
-
 // Where a line begins, behind so many others.
 fn at_line(records: [Record; MOST_RECORDS], lines: usize) -> Feeding
     ensures { result ≡ line_begins lines records }
 {
     let none = Seen::none();
-    let cells = [none; COLUMNS];
-    let spot = Spot::begin();
     Feeding {
         number: ACCEPTED,
-        lines: lines,
-        records: records,
+        lines,
+        records,
         commas: 0,
-        cells: cells,
-        spot: spot,
+        cells: [none; COLUMNS],
+        spot: Spot::begin(),
     }
 }
 
@@ -75,17 +58,9 @@ fn at_line(records: [Record; MOST_RECORDS], lines: usize) -> Feeding
 fn stop(number: u32, line: usize) -> Feeding
     ensures { result ≡ stopped number line }
 {
-    let records = no_records();
-    let none = Seen::none();
-    let cells = [none; COLUMNS];
-    let spot = Spot::begin();
     Feeding {
-        number: number,
-        lines: line,
-        records: records,
-        commas: 0,
-        cells: cells,
-        spot: spot,
+        number,
+        ..at_line(no_records(), line)
     }
 }
 
@@ -112,6 +87,7 @@ pub fn feed(state: Feeding, piece: &[u8]) -> Feeding
     let mut cells = state.cells;
     let mut spot = state.spot;
     let mut i: usize = 0;
+    // It goes on to where the field ends: no index is counted.
     while i < n {
         let gone = walk_from(piece, i, spot);
         let here = gone.spot;
@@ -122,23 +98,20 @@ pub fn feed(state: Feeding, piece: &[u8]) -> Feeding
                 spot = next;
             }
             Step::Comma => {
-                let seen = here.seen;
-                cells[commas % COLUMNS] = seen;
-                commas = one_more(commas, COLUMNS);
+                cells[commas % COLUMNS] = here.seen;
+                commas = commas.saturating_add(1).min(COLUMNS);
                 spot = Spot::begin();
             }
-            Step::Ends => {
-                let seen = here.seen;
-                let line = line_of(commas, cells, seen);
-                let Line::Good(r) = line else {
-                    return stop(number_in(line), lines);
-                };
-                records[lines % MOST_RECORDS] = r;
-                lines = one_more(lines, usize::MAX);
-                commas = 0;
-                cells = [none; COLUMNS];
-                spot = Spot::begin();
-            }
+            Step::Ends => match line_of(commas, cells, here.seen) {
+                Ok(record) => {
+                    records[lines % MOST_RECORDS] = record;
+                    lines = lines.saturating_add(1);
+                    commas = 0;
+                    cells = [none; COLUMNS];
+                    spot = Spot::begin();
+                }
+                Err(number) => return stop(number, lines),
+            },
             Step::Broken => {
                 return stop(BROKEN_QUOTING, lines);
             }
@@ -146,11 +119,11 @@ pub fn feed(state: Feeding, piece: &[u8]) -> Feeding
     }
     Feeding {
         number: ACCEPTED,
-        lines: lines,
-        records: records,
-        commas: commas,
-        cells: cells,
-        spot: spot,
+        lines,
+        records,
+        commas,
+        cells,
+        spot,
     }
 }
 
@@ -166,12 +139,12 @@ pub fn last_line(state: Feeding) -> Feeding
     if !spot.may_end() {
         return stop(BROKEN_QUOTING, lines);
     }
-    let cells = state.cells;
-    let line = line_of(state.commas, cells, spot.seen);
-    let Line::Good(r) = line else {
-        return stop(number_in(line), lines);
-    };
-    let mut records = state.records;
-    records[lines % MOST_RECORDS] = r;
-    at_line(records, one_more(lines, usize::MAX))
+    match line_of(state.commas, state.cells, spot.seen) {
+        Ok(record) => {
+            let mut records = state.records;
+            records[lines % MOST_RECORDS] = record;
+            at_line(records, lines.saturating_add(1))
+        }
+        Err(number) => stop(number, lines),
+    }
 }

@@ -14,10 +14,9 @@ use Rattle.std.specs.Prelude.{if◌then◌else◌}
 use Rattle.plan.specs.Limits.{most_ordinary, records_with, record_bytes}
 use Rattle.plan.specs.APlan.{Kind, point, link, ordinary, wait, unknown, kind_of, is, one, how_many, blank}
 use Rattle.plan.specs.PlanFile.{Entry}
-use Rattle.plan.specs.ReplyNumbers.{Before, after, is_known, in_order, room_for_with, number_for_with, number_with, first_bad_with, refusal, read_with, write_with, written_with}
+use Rattle.plan.specs.ReplyNumbers.{Before, after, is_known, in_order, room_for_with, number_for_with, number_with, first_bad_with, refusal, read_with, write_with, written_with, number_in, plan_in}
 use Rattle.old_files.specs.OldFiles.{old_ordinary, Larger, RefusedBefore, three, six, OldFiles}
 use Rattle.records.specs.declared.Record.{Record}
-use Rattle.plan.specs.declared.Reading.{Reading}
 use Rattle.plan.specs.declared.Refusal.{Refusal}
 use Rattle.plan.proofs.Entries.{passed}
 use Rattle.plan.proofs.Records.{many_snoc}
@@ -131,7 +130,7 @@ past_limit m m' rs (x ∷ es) h l e =
 
 -- ---- files
 
-module _ (m m' : ℕ) (h : m ≤ m') (s : List ℕ) (e : (read_with m s).number ≡ 0) where
+module _ (m m' : ℕ) (h : m ≤ m') (s : List ℕ) (e : number_in (read_with m s) ≡ 0) where
   -- Old files read as before: as the same plan.
   pub reads_same : read_with m' s ≡ read_with m s
   reads_same =
@@ -139,14 +138,14 @@ module _ (m m' : ℕ) (h : m ≤ m') (s : List ℕ) (e : (read_with m s).number 
       let g' : Good m' (length s / record_bytes) (parts s) = record { some = g.some; few = omega (arith, g.few); none = all_more m m' h [] (parts s) g.none } in
       read_good m' s (whole m s e) g' ∙ sym (read_taken m s e)
 
-  accepted_still : (read_with m' s).number ≡ 0
-  accepted_still = ap (λ (x : Reading). x.number) reads_same ∙ e
+  accepted_still : number_in (read_with m' s) ≡ 0
+  accepted_still = ap number_in reads_same ∙ e
 
-  same_answer : (out : List ℕ) → write_with m' (read_with m' s).plan out ≡ write_with m (read_with m s).plan out
+  same_answer : (out : List ℕ) → write_with m' (plan_in (read_with m' s)) out ≡ write_with m (plan_in (read_with m s)) out
   unfolding write_with
   same_answer out = rw (read_is_checked m' s accepted_still, read_is_checked m s e, reads_same)
 
-  same_bytes : (out : List ℕ) → written_with m' (read_with m' s).plan out ≡ written_with m (read_with m s).plan out
+  same_bytes : (out : List ℕ) → written_with m' (plan_in (read_with m' s)) out ≡ written_with m (plan_in (read_with m s)) out
   unfolding written_with
   same_bytes out = rw (same_answer out, reads_same)
 

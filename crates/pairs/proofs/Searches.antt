@@ -4,13 +4,13 @@ use mathlib.Core.Bool.{Bool, true, false, ◌&&◌}
 use Prim.Native.Nat.{ℕ, ◌+◌, ◌<◌, ◌≤◌}
 use native.Mathlib.Omega.{arith}
 use native.Mathlib.Decide.{ℕ_discrete}
-use Rattle.pairs.specs.declared.Pair.TheVariants.{None, At}
+use Rattle.std.specs.Prelude.{None, Some}
 use lib.Dec.{ltb}
 use borrow.Author.Tests.{ltb-true, ltb-false, lt-ltb}
 use Rattle.tables.specs.Tables.{Table, none}
 use Rattle.tables.specs.Entries.{nowhere, wide}
 use Rattle.tables.proofs.Widths.{finite, wide_there, wide_mono, wide_less}
-use Rattle.pairs.specs.Pairs.{Kept, Undercut, InRow, FirstPair, no_pair, pair}
+use Rattle.pairs.specs.Pairs.{Kept, Undercut, InRow, none_here, here, FirstPair, no_pair, pair}
 
 -- the test of one pair
 both : (a b : Bool) → a && b ≡ true → (a ≡ true) × (b ≡ true)
@@ -32,8 +32,8 @@ pub record Clean (n : ℕ) (d v : Table) (X y : ℕ) : Type 0 where
   pub before : (Y : ℕ) → Y < y → Kept d v X Y
 
 module _ {n : ℕ} {d v : Table} {X y : ℕ} (s : Clean n d v X y) where
-  pub stops : Undercut d v X y → InRow n d v X y
-  stops w = record { within = s.within; before = s.before; here = λ _. w }
+  pub stops : y < n → Undercut d v X y → InRow n d v X (Some y)
+  stops h w = here h s.before w
 
   pub goes_on_lem : y < n → Kept d v X y → Clean n d v X (y + 1)
   goes_on_lem h w = record { within = omega arith; before = before }
@@ -44,8 +44,8 @@ module _ {n : ℕ} {d v : Table} {X y : ℕ} (s : Clean n d v X y) where
         | no k ↦ s.before Y (omega arith)
       ]
 
-  pub clean_row : n ≤ y → InRow n d v X n
-  clean_row h = record { within = omega arith; before = λ Y l. s.before Y (omega arith); here = λ l. absurd (omega arith) }
+  pub clean_row : n ≤ y → InRow n d v X None
+  clean_row h = none_here (λ Y l. s.before Y (omega arith))
 
 -- the rows below x are no trouble
 pub record CleanRows (n : ℕ) (d v : Table) (x : ℕ) : Type 0 where
@@ -53,15 +53,15 @@ pub record CleanRows (n : ℕ) (d v : Table) (x : ℕ) : Type 0 where
   pub before : (X Y : ℕ) → X < x → Y < n → Kept d v X Y
 
 module _ {n : ℕ} {d v : Table} {x : ℕ} (s : CleanRows n d v x) where
-  pub found : {y : ℕ} → x < n → y < n → InRow n d v x y → FirstPair n (Kept d v) (Undercut d v) (At x y)
-  found h l w = pair h l s.before w.before (w.here l)
+  pub found : {y : ℕ} → x < n → InRow n d v x (Some y) → FirstPair n (Kept d v) (Undercut d v) (Some (x, y))
+  found h (here l before w) = pair h l s.before before w
 
-  pub next_row : {y : ℕ} → x < n → n ≤ y → InRow n d v x y → CleanRows n d v (x + 1)
-  next_row {y} h l w = record { within = omega arith; before = before }
+  pub next_row : x < n → InRow n d v x None → CleanRows n d v (x + 1)
+  next_row h (none_here kept) = record { within = omega arith; before = before }
     where
       before : (X Y : ℕ) → X < x + 1 → Y < n → Kept d v X Y
       before X Y i j = elim (ℕ_discrete X x) [
-        | yes k ↦ rw k (w.before Y (omega arith))
+        | yes k ↦ rw k (kept Y j)
         | no k ↦ s.before X Y (omega arith) j
       ]
 

@@ -10,13 +10,6 @@ ghost use Rattle.pairs.specs.Pairs.{Kept, Undercut, InRow, FirstPair};
 
 use tables::{NONE, ROOM, SIDE};
 
-// A pair of points, or none.
-#[derive(Clone, Copy)]
-pub enum Pair {
-    None,
-    At(u32, u32),
-}
-
 // The distance is there, and below the least way.
 fn undercut(distance: u32, way: u32) -> bool
     ensures { result ≡ (ltb distance nowhere && ltb distance way) }
@@ -24,30 +17,29 @@ fn undercut(distance: u32, way: u32) -> bool
     (distance < NONE) & (distance < way)
 }
 
-// The first point that is trouble in the row of `x`, or `n`.
-fn in_row(all: &[u32; ROOM], ways: &[u32; ROOM], n: usize, x: usize) -> usize
+// The first point that is trouble in the row of `x`.
+fn in_row(all: &[u32; ROOM], ways: &[u32; ROOM], n: usize, x: usize) -> Option<usize>
     requires { (n ≤ side) × (x < n) }
     ensures { InRow n (at all.now) (at ways.now) x result }
 {
     let row = x * SIDE;
     for y in 0..n {
         if undercut(all[row + y], ways[row + y]) {
-            return y;
+            return Some(y);
         }
     }
-    n
+    None
 }
 
 // The first pair that is trouble.
-pub fn first_pair(all: &[u32; ROOM], ways: &[u32; ROOM], n: usize) -> Pair
+pub fn first_pair(all: &[u32; ROOM], ways: &[u32; ROOM], n: usize) -> Option<(u32, u32)>
     requires { n ≤ side }
     ensures { FirstPair n (Kept (at all.now) (at ways.now)) (Undercut (at all.now) (at ways.now)) result }
 {
     for x in 0..n {
-        let y = in_row(all, ways, n, x);
-        if y < n {
-            return Pair::At(x as u32, y as u32);
+        if let Some(y) = in_row(all, ways, n, x) {
+            return Some((x as u32, y as u32));
         }
     }
-    Pair::None
+    None
 }

@@ -1,20 +1,20 @@
 -- The word that the walk finds is the first word of what is left of the line, and the place behind it is where the rest begins.
 -- Assumes nothing.
-use mathlib.Core.Path.{◌≡◌, refl, sym, ap, ◌∙◌}
+use mathlib.Core.Path.{◌≡◌, refl, ap, ◌∙◌}
 use mathlib.Core.Bool.{Bool, true, false, ◌&&◌, ◌||◌}
-use mathlib.Core.List.{List, [], ◌∷◌, ◌++◌}
+use mathlib.Core.List.{List, [], ◌∷◌}
 use Prim.Native.Nat.{ℕ, zero, suc, ◌+◌, ◌≤◌, ◌<◌}
 use native.Mathlib.Omega.{arith}
 use mathlib.Core.Logic.{◌⊎◌, inl, inr}
 use lib.Dec.{eqb}
 use lib.ListN.{length, get_or, drop, length-drop}
 use lib.Seq.{drop-drop}
-use borrow.Author.Tests.{eq-eqb, ne_eqb, eqb-true}
+use borrow.Author.Tests.{ne_eqb, eqb-true}
 use Rattle.std.specs.Prelude.{if◌then◌else◌}
 use Rattle.numbers.specs.Fits.{All, IsByte}
 use Rattle.values.specs.Values.{is_empty}
 use Rattle.values.proofs.Tests.{both}
-use Rattle.phrases.specs.Phrases.{is_lf, is_cr, is_blank, is_hash, in_first, cut, filled, begins_lf, unless, without_crs, lines_of, uncommented, words_of}
+use Rattle.phrases.specs.Phrases.{is_lf, is_cr, is_blank, is_hash, in_first, cut, filled, begins_lf, unless, uncommented}
 use Rattle.phrases.specs.Inside.{fresh_word, with_byte, with_bytes, blank_by, ends_by, blanks_from, word_from, line_end, first_line}
 use Rattle.phrases.specs.declared.Word.{Word}
 use Rattle.phrases.specs.declared.Found.{Found}

@@ -2,7 +2,7 @@
 use mathlib.Core.Path.{◌≡◌, refl, sym, ap, ◌∙◌}
 use mathlib.Core.Bool.{Bool, true, false, ◌&&◌, ◌||◌, not}
 use mathlib.Core.List.{List, [], ◌∷◌, ◌++◌}
-use Prim.Native.Nat.{ℕ, zero, suc, ◌+◌, ◌%◌, ◌^◌, ◌≤◌, ◌<◌, min}
+use Prim.Native.Nat.{ℕ, zero, suc, ◌%◌, ◌^◌, ◌≤◌, ◌<◌, min}
 use native.Mathlib.Omega.{arith}
 use lib.Dec.{eqb, ltb}
 use lib.ListN.{length}
@@ -11,9 +11,8 @@ use Rattle.std.specs.Prelude.{if◌then◌else◌}
 use Rattle.numbers.specs.Fits.{All, IsByte}
 use Rattle.points.specs.Sets.{member, with_of}
 use Rattle.values.specs.Ascii.{ascii}
-use Rattle.values.specs.Values as values
-use Rattle.values.specs.Values.{same, is_empty, all_digits, unsigned}
-use Rattle.values.specs.Inside.{fresh, with, with_all, word_in}
+use Rattle.values.specs.Values.{same, is_empty, all_digits}
+use Rattle.values.specs.Inside.{fresh, with, with_all, word_in, below_in}
 use Rattle.values.specs.declared.Seen.{Seen}
 use Rattle.values.proofs.Tests.{both}
 use Rattle.values.proofs.Words.{base, same_word}
@@ -21,7 +20,7 @@ use Rattle.values.proofs.Tells.{Tells, tells_all}
 use Rattle.values.proofs.Digits.{digits_unsigned, no_minus}
 use Rattle.values.proofs.Says.{says_kind}
 use Rattle.phrases.specs.Phrases.{is_comma, in_first, cut, kind_of, is_below, value_of, is_none, are_points, set_from, is_set, set_of, is_point_or_none, point_or_none}
-use Rattle.phrases.specs.Inside.{below_in, fresh_word, ended, with_byte, with_bytes, kind_by, none_in, set_in, set_by, point_or_none_in, point_or_none_by}
+use Rattle.phrases.specs.Inside.{fresh_word, ended, with_byte, with_bytes, kind_by, none_in, set_in, set_by, point_or_none_in, point_or_none_by}
 use Rattle.phrases.specs.declared.Word.{Word}
 use Rattle.phrases.proofs.Reading.{onto, onto_bare}
 

@@ -1,19 +1,18 @@
 -- The walks over a text, one byte at a time. Assumes nothing.
-use mathlib.Core.Path.{◌≡◌, refl, sym, ap, ◌∙◌}
-use mathlib.Core.Bool.{Bool, true, false, ◌&&◌, not}
-use mathlib.Core.List.{List, [], ◌∷◌}
-use Prim.Native.Nat.{ℕ, suc, ◌+◌, ◌%◌, ◌≤◌, ◌<◌}
+use mathlib.Core.Path.{◌≡◌}
+use mathlib.Core.Bool.{Bool, true, false, not}
+use mathlib.Core.List.{List}
 use native.Mathlib.Omega.{arith}
+use Prim.Native.Nat.{ℕ, ◌+◌, ◌≤◌, ◌<◌}
 use native.Mathlib.Numerals.{add-one}
 use lib.ListN.{length, drop, get_or, drop_of_length-le}
 use lib.Seq.{drop-cons}
 use borrow.Author.Tests.{eq-eqb, ne_eqb, not-true, not-false}
 use Rattle.std.specs.Prelude.{if◌then◌else◌}
 use Rattle.phrases.specs.Phrases.{is_lf, begins_lf}
-use Rattle.points.specs.Sets.{member, with_of}
-use Rattle.values.specs.Inside.{fresh}
+use Rattle.values.specs.Inside.{word_in, kind_in}
 use Rattle.values.specs.declared.Seen.{Seen}
-use Rattle.phrases.specs.Inside.{below_in, ended, with_byte, blank_by, ends_by, blanks_from, word_from, line_end}
+use Rattle.phrases.specs.Inside.{with_byte, blank_by, ends_by, blanks_from, word_from, line_end}
 use Rattle.phrases.specs.declared.Word.{Word}
 use Rattle.phrases.specs.declared.Found.{Found}
 
@@ -73,9 +72,14 @@ module _ (s : List ℕ) (i : ℕ) where
     pub line_on : (get_or s i 0 ≡ 10 → ⊥) → line_end (i + 1) (drop (i + 1) s) ≡ line_end i (drop i s)
     line_on n = rw (line_here, ne_eqb (get_or s i 0) 10 n)
 
--- the point that goes by ends, by the answers of the functions that are asked
-pub ended_by_lem : (w : Word) (p : ℕ) → p ≡ w.point.size % 256 → (none : Seen) → none ≡ fresh → (set : ℕ) → set ≡ with_of w.set p → (b : Bool) → b ≡ below_in 32 w.point
-    → (h : Bool) → h ≡ member w.set p
-    → ◌≡◌ {A = Word} (record { seen = w.seen; set = set; good = w.good && (b && not h); point = none }) (ended w)
-unfolding ended
-ended_by_lem w p ep none en set es b eb h eh = rw (es, eb, eh, ep, en)
+-- there are four kinds of record
+pub few_kinds : (s : Seen) → kind_in s ≤ 4
+unfolding kind_in
+few_kinds s = go (word_in 5 482905517684 s) (word_in 4 1818848875 s) (word_in 8 8030591489541239417 s) (word_in 4 2002872692 s)
+  where
+    go : (a b c d : Bool) → (if a then 1 else (if b then 2 else (if c then 3 else (if d then 4 else 0)))) ≤ 4
+    go true b c d = omega arith
+    go false true c d = omega arith
+    go false false true d = omega arith
+    go false false false true = omega arith
+    go false false false false = omega arith

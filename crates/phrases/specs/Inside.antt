@@ -1,16 +1,14 @@
 -- What the functions keep of a word while its bytes go by, how they go over a line's words, and what they answer by it. A reader of
 -- the rules can leave this page out: the open functions' contracts above this room do not cite it. Assumes nothing.
-use Rattle.std.specs.Prelude.{Bool, true, false, ◌&&◌, ◌||◌, not, List, [], ◌∷◌, ℕ, suc, ◌+◌, ◌%◌, eqb, ltb, if◌then◌else◌}
+use Rattle.std.specs.Prelude.{Bool, true, ◌&&◌, ◌||◌, not, List, [], ◌∷◌, Option, Some, None, ℕ, suc, ◌+◌, ◌%◌, eqb, if◌then◌else◌}
 use Rattle.points.specs.Sets.{member, with_of}
-use Rattle.values.specs.Inside.{fresh, with, word_in, kind_in}
+use Rattle.values.specs.Inside.{fresh, with, word_in, below_in, kind_in}
 use Rattle.values.specs.declared.Seen.{Seen}
 use Rattle.phrases.specs.Phrases.{is_lf, is_cr, is_blank, is_hash, is_comma, begins_lf, unless}
 use Rattle.phrases.specs.declared.Word.{Word}
 use Rattle.phrases.specs.declared.Found.{Found}
-
--- a number below n, by what is known of a word
-abbrev pub below_in : ℕ → Seen → Bool
-below_in n s = not (eqb s.count 0) && ((s.digits && not s.minus) && ltb s.size n)
+use Rattle.phrases.specs.declared.Kind.{Kind}
+use Rattle.phrases.specs.declared.Kind.TheVariants.{Point, Link, Ordinary, Wait, Mark, Event}
 
 -- nothing of a word yet
 abbrev pub fresh_word : Word
@@ -72,13 +70,26 @@ unfoldable pub first_line : List ℕ → List ℕ
 first_line [] = []
 first_line (c ∷ s) = if is_lf c then [] else unless (is_cr c && begins_lf s) c (first_line s)
 
+-- the kinds by number, as `kind_of` has them: those of a plan's records, then the mark and an event
+abbrev pub kind_number : Kind → ℕ
+kind_number Point = 1
+kind_number Link = 2
+kind_number Ordinary = 3
+kind_number Wait = 4
+kind_number Mark = 5
+kind_number Event = 6
+
+-- 0 for none
+abbrev pub number_named : Option Kind → ℕ
+number_named None = 0
+number_named (Some k) = kind_number k
+
 -- the answers by what is known of a word
+abbrev pub other_kind : Seen → ℕ
+other_kind s = if word_in 4 0x6d61726b s then 5 else (if word_in 5 0x6576656e74 s then 6 else 0)
+
 unfoldable pub kind_by : Seen → ℕ
-kind_by s =
-    if not (eqb (kind_in s) 0) then kind_in s
-    else (if word_in 4 0x6d61726b s then 5
-    else (if word_in 5 0x6576656e74 s then 6
-    else 0))
+kind_by s = if not (eqb (kind_in s) 0) then kind_in s else other_kind s
 
 abbrev pub none_in : Seen → Bool
 none_in s = word_in 4 0x6e6f6e65 s

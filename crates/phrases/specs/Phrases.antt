@@ -1,6 +1,6 @@
 -- A listing, typed by people: the text as its lines, a line as its words, and what a word says. Texts are bytes, ASCII codes.
 -- Assumes nothing.
-use Rattle.std.specs.Prelude.{Bool, true, false, ◌&&◌, ◌||◌, not, List, [], ◌∷◌, ℕ, ◌%◌, eqb, ltb, if◌then◌else◌}
+use Rattle.std.specs.Prelude.{Bool, true, false, ◌&&◌, ◌||◌, not, List, [], ◌∷◌, ℕ, eqb, ltb, if◌then◌else◌}
 use Rattle.points.specs.Sets.{member, with_of}
 use Rattle.values.specs.Ascii.{ascii}
 use Rattle.values.specs.Values as values

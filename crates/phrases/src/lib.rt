@@ -4,26 +4,25 @@
 
 #![tactic(auto)]
 
-ghost use Rattle.std.specs.Prelude.{◌≡◌, ◌+◌, ◌%◌, ◌^◌, ◌<◌, drop};
+ghost use Rattle.std.specs.Prelude.{◌≡◌, drop};
 ghost use Rattle.phrases.specs.Phrases.{begins_lf};
-ghost use Rattle.phrases.specs.Inside.{below_in, fresh_word, ended, pointed, with_byte, blank_by, ends_by, blanks_from, word_from, line_end};
-ghost use Rattle.phrases.specs.Inside.{kind_by, none_in, set_in, set_by, point_or_none_in, point_or_none_by};
-ghost use Rattle.values.specs.Inside.{word_in};
+ghost use Rattle.phrases.specs.Inside.{fresh_word, ended, pointed, with_byte, blank_by, ends_by, blanks_from, word_from, line_end};
+ghost use Rattle.phrases.specs.Inside.{number_named, other_kind, kind_by, none_in, set_in, set_by, point_or_none_in, point_or_none_by};
 
 use points::{has, with};
 use values::Seen;
 
-const TAB: u8 = 9;
+const TAB: u8 = b'\t';
 
-const LF: u8 = 10;
+const LF: u8 = b'\n';
 
-const CR: u8 = 13;
+const CR: u8 = b'\r';
 
-const SPACE: u8 = 32;
+const SPACE: u8 = b' ';
 
-const HASH: u8 = 35;
+const HASH: u8 = b'#';
 
-const COMMA: u8 = 44;
+const COMMA: u8 = b',';
 
 // Words, their letters as one number to the base 256, the first letter highest: mark, event, none.
 const MARK_WORD: u64 = 0x6d61726b;
@@ -31,6 +30,17 @@ const MARK_WORD: u64 = 0x6d61726b;
 const EVENT_WORD: u64 = 0x6576656e74;
 
 const NONE_WORD: u64 = 0x6e6f6e65;
+
+// The kinds of line: those of a plan's records, the mark, an event.
+#[derive(Clone, Copy)]
+pub enum Kind {
+    Point,
+    Link,
+    Ordinary,
+    Wait,
+    Mark,
+    Event,
+}
 
 // What is known of a word's bytes so far: all of them; and as points with commas between them, the set of those that have ended,
 // whether each was one and new, and the point that goes by.
@@ -49,48 +59,44 @@ pub struct Found {
     pub next: usize,
 }
 
-// Decimal digits, at least one, of a number below n.
-pub fn is_below(s: Seen, n: u64) -> bool
-    ensures { result ≡ below_in n s }
-{
-    (s.count != 0) & ((s.digits & !s.minus) & (s.size < n))
-}
-
-// The word has so many letters, and they are these.
-fn is_word(s: Seen, letters: u32, word: u64) -> bool
-    ensures { result ≡ word_in letters word s }
-{
-    (s.count == letters) & (s.word == word)
-}
-
 pub fn is_none(s: Seen) -> bool
     ensures { result ≡ none_in s }
 {
-    is_word(s, 4, NONE_WORD)
+    s.is_word(4, NONE_WORD)
 }
 
-// The kind that a word names: 1 to 4 as the plan file has them, 5 for the mark, 6 for an event, and 0 for none.
-pub fn kind_of(s: Seen) -> u8
-    ensures { result ≡ kind_by s }
+// The kind that a word names.
+#[tactic(auto, unfolding(crate::specs::Inside::kind_by))]
+pub fn kind_of(s: Seen) -> Option<Kind>
+    ensures { number_named result ≡ kind_by s }
 {
-    let k = s.kind();
-    if k != 0 {
-        return k;
+    match s.kind() {
+        0 => mark_or_event(s),
+        1 => Some(Kind::Point),
+        2 => Some(Kind::Link),
+        3 => Some(Kind::Ordinary),
+        _ => Some(Kind::Wait),
     }
-    if is_word(s, 4, MARK_WORD) {
-        return 5;
+}
+
+// The kind that no record of a plan has.
+fn mark_or_event(s: Seen) -> Option<Kind>
+    ensures { number_named result ≡ other_kind s }
+{
+    if s.is_word(4, MARK_WORD) {
+        return Some(Kind::Mark);
     }
-    if is_word(s, 5, EVENT_WORD) {
-        return 6;
+    if s.is_word(5, EVENT_WORD) {
+        return Some(Kind::Event);
     }
-    0
+    None
 }
 
 // `none`, or a point of an event.
 pub fn is_point_or_none(s: Seen) -> bool
     ensures { result ≡ point_or_none_in s }
 {
-    is_none(s) | is_below(s, 255)
+    is_none(s) | s.is_below(255)
 }
 
 pub fn point_or_none(s: Seen) -> u32
@@ -107,28 +113,26 @@ impl Word {
     pub fn none() -> Self
         ensures { result ≡ fresh_word }
     {
-        let none = Seen::none();
         Word {
-            seen: none,
+            seen: Seen::none(),
             set: 0,
             good: true,
-            point: none,
+            point: Seen::none(),
         }
     }
 
     // The point that goes by ends.
+    #[tactic(auto, unfolding(crate::specs::Inside::ended))]
     fn ended(self) -> Word
         ensures { result ≡ ended self }
     {
-        let all = self.seen;
         let now = self.point;
         let p = now.point();
-        let none = Seen::none();
         Word {
-            seen: all,
             set: with(self.set, p),
-            good: self.good & (is_below(now, 32) & !has(self.set, p)),
-            point: none,
+            good: self.good & (now.is_below(32) & !has(self.set, p)),
+            point: Seen::none(),
+            ..self
         }
     }
 
@@ -139,30 +143,20 @@ impl Word {
         if c == COMMA {
             return self.ended();
         }
-        let all = self.seen;
-        let now = self.point;
-        let more = now.with(c);
         Word {
-            seen: all,
-            set: self.set,
-            good: self.good,
-            point: more,
+            point: self.point.with(c),
+            ..self
         }
     }
 
     // With a byte more.
+    #[tactic(auto, unfolding(crate::specs::Inside::with_byte))]
     fn with_byte(self, c: u8) -> Word
         ensures { result ≡ with_byte self c }
     {
-        let all = self.seen;
-        let more = all.with(c);
-        let p = self.pointed(c);
-        let now = p.point;
         Word {
-            seen: more,
-            set: p.set,
-            good: p.good,
-            point: now,
+            seen: self.seen.with(c),
+            ..self.pointed(c)
         }
     }
 
@@ -170,32 +164,26 @@ impl Word {
     pub fn is_set(self) -> bool
         ensures { result ≡ set_in self }
     {
-        let all = self.seen;
-        let e = self.ended();
-        is_none(all) | e.good
+        is_none(self.seen) | self.ended().good
     }
 
     // The set of them.
     pub fn set(self) -> u32
         ensures { result ≡ set_by self }
     {
-        let all = self.seen;
-        if is_none(all) {
+        if is_none(self.seen) {
             return 0;
         }
-        let e = self.ended();
-        e.set
+        self.ended().set
     }
 }
 
 // Whether an LF stands at a place of the text.
+#[tactic(auto, unfolding(crate::specs::Phrases::begins_lf))]
 fn is_lf(text: &[u8], at: usize) -> bool
     ensures { result ≡ begins_lf (drop at text.now) }
 {
-    if text.len() <= at {
-        return false;
-    }
-    text[at] == LF
+    at < text.len() && text[at] == LF
 }
 
 // A space, a tab, or a CR with an LF behind it.
@@ -215,39 +203,29 @@ fn ends_word(c: u8, lf: bool) -> bool
 fn skip_blanks(text: &[u8], at: usize) -> usize
     ensures { result ≡ blanks_from at (drop at text.now) }
 {
-    let n = text.len();
-    let mut i = at;
-    while i < n {
-        let c = text[i];
-        if !is_blank(c, is_lf(text, i + 1)) {
+    for i in at..text.len() {
+        if !is_blank(text[i], is_lf(text, i + 1)) {
             return i;
         }
-        i += 1;
     }
-    i
+    at.max(text.len())
 }
 
 // The word that begins at a place.
 fn word_from(text: &[u8], at: usize) -> Found
     ensures { result ≡ word_from fresh_word at (drop at text.now) }
 {
-    let n = text.len();
     let mut word = Word::none();
-    let mut i = at;
-    while i < n {
+    for i in at..text.len() {
         let c = text[i];
         if ends_word(c, is_lf(text, i + 1)) {
-            return Found {
-                word: word,
-                next: i,
-            };
+            return Found { word, next: i };
         }
         word = word.with_byte(c);
-        i += 1;
     }
     Found {
-        word: word,
-        next: i,
+        word,
+        next: at.max(text.len()),
     }
 }
 
@@ -262,13 +240,10 @@ pub fn word_at(text: &[u8], at: usize) -> Found
 pub fn line_end(text: &[u8], at: usize) -> usize
     ensures { result ≡ line_end at (drop at text.now) }
 {
-    let n = text.len();
-    let mut i = at;
-    while i < n {
+    for i in at..text.len() {
         if text[i] == LF {
             return i + 1;
         }
-        i += 1;
     }
-    i
+    at.max(text.len())
 }

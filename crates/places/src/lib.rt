@@ -32,11 +32,8 @@ pub fn has_list(outcome: Outcome) -> bool
     ensures { result ≡ has_list outcome }
 {
     match outcome {
-        Outcome::Refused(_, _) => false,
-        Outcome::Finished => false,
-        Outcome::Stuck => true,
-        Outcome::Waiting => true,
-        Outcome::Offers => true,
+        Outcome::Refused(_, _) | Outcome::Finished => false,
+        Outcome::Stuck | Outcome::Waiting | Outcome::Offers => true,
     }
 }
 
@@ -45,11 +42,8 @@ fn named(state: State) -> u32
     ensures { result ≡ named_by state }
 {
     match state {
-        State::Done(_) => 0,
-        State::Watched => 0,
         State::Shut(n) => n,
-        State::Held => 0,
-        State::Offered(_) => 0,
+        _ => 0,
     }
 }
 
@@ -69,9 +63,5 @@ pub fn line_at(rows: &[u32; SHEET], ponds: [u32; ROOM], reply: Reply, i: u32) ->
 pub fn listed(points: u32) -> u32
     ensures { result ≡ min points most_points }
 {
-    if points < MOST_POINTS {
-        points
-    } else {
-        MOST_POINTS
-    }
+    points.min(MOST_POINTS)
 }

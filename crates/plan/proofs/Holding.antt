@@ -2,7 +2,7 @@
 -- Assumes of a file only that its bytes are bytes.
 use mathlib.Core.Path.{◌≡◌, refl, ◌∙◌}
 use mathlib.Core.Bool.{Bool, true, false, not}
-use mathlib.Core.List.{List, [], ◌∷◌, ◌++◌}
+use mathlib.Core.List.{List, [], ◌∷◌}
 use Prim.Native.Nat.{ℕ, zero, suc, ◌-◌, ◌/◌, ◌%◌, ◌^◌, ◌≤◌, ◌<◌}
 use native.Mathlib.Omega.{arith}
 use lib.Dec.{eqb, ltb}
@@ -18,7 +18,7 @@ use Rattle.std.specs.Prelude.{if◌then◌else◌}
 use Rattle.plan.specs.Limits.{most_ordinary, most_records, record_bytes}
 use Rattle.plan.specs.APlan.{blank, plan_of}
 use Rattle.plan.specs.PlanFile.{Entry, entries_in}
-use Rattle.plan.specs.ReplyNumbers.{refusal, refused, taken, first_bad_with, read_with, read_of}
+use Rattle.plan.specs.ReplyNumbers.{refusal, refused, taken, first_bad_with, read_with, read_of, plan_in}
 use Rattle.plan.specs.Held.{All, IsByte, Held, HeldPlan}
 use Rattle.plan.specs.declared.Refusal.{Refusal}
 use Rattle.plan.proofs.Limited.{records_in}
@@ -69,7 +69,7 @@ none_held : HeldPlan (plan_of [])
 none_held = plan_held [] tt (omega arith)
 
 -- What reading answers is a plan that a program can hold.
-pub read_held : (s : List ℕ) → All IsByte s → HeldPlan (read_of s).plan
+pub read_held : (s : List ℕ) → All IsByte s → HeldPlan (plan_in (read_of s))
 unfolding read_with
 read_held s b = go (eqb (length s) 0) (not (eqb (length s % record_bytes) 0)) (ltb most_records n) refl (eqb bad.number 0)
   where
@@ -83,7 +83,7 @@ read_held s b = go (eqb (length s) 0) (not (eqb (length s % record_bytes) 0)) (l
     bad = first_bad_with most_ordinary [] es
 
     go : (x y z : Bool) → ltb most_records n ≡ z → (t : Bool)
-        → HeldPlan (if x then refused (refusal 1 0) else (if y then refused (refusal 2 0) else (if z then refused (refusal 3 0) else (if t then taken (records_in es) else refused bad)))).plan
+        → HeldPlan (plan_in (if x then refused (refusal 1 0) else (if y then refused (refusal 2 0) else (if z then refused (refusal 3 0) else (if t then taken (records_in es) else refused bad)))))
     go true y z e t = none_held
     go false true z e t = none_held
     go false false true e t = none_held

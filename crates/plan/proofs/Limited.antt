@@ -1,6 +1,6 @@
 -- Reading, checking and writing with any limit m of ordinary records: what they have in common, and that accepted bytes, read
 -- and written, are the same bytes. Assumes of a file only that its bytes are bytes.
-use mathlib.Core.Path.{◌≡◌, refl, sym, ◌∙◌}
+use mathlib.Core.Path.{◌≡◌, refl, sym, ap, ◌∙◌}
 use mathlib.Core.Bool.{Bool, true, false, not}
 use mathlib.Core.List.{List, [], ◌++◌, map}
 use Prim.Native.Nat.{ℕ, zero, suc, ◌*◌, ◌/◌, ◌%◌, ◌≤◌}
@@ -9,14 +9,13 @@ use lib.Dec.{eqb, ltb}
 use lib.ListN.{length, drop, length-map}
 use lib.Seq.{take-append_seam}
 use borrow.Author.Tests.{eqb-true, eqb-false, ltb-false, not-false, ne_eqb, le-ltb}
-use Rattle.std.specs.Prelude.{if◌then◌else◌}
+use Rattle.std.specs.Prelude.{Ok, Err, if◌then◌else◌}
 use Rattle.plan.specs.Limits.{records_with, record_bytes}
 use Rattle.plan.specs.APlan.{records_of, plan_of}
 use Rattle.plan.specs.PlanFile.{Entry, entries_in, file_of}
-use Rattle.plan.specs.ReplyNumbers.{refusal, accepted, first_bad_with, refused, taken, read_entries_with, read_with, check_with, write_with, written_with}
+use Rattle.plan.specs.ReplyNumbers.{refusal, accepted, first_bad_with, refused, taken, read_entries_with, read_with, check_with, write_with, written_with, Reading, number_in, plan_in}
 use Rattle.plan.specs.Held.{All, IsByte, plain}
 use Rattle.records.specs.declared.Record.{Record}
-use Rattle.plan.specs.declared.Reading.{Reading}
 use Rattle.plan.specs.declared.Refusal.{Refusal}
 use Rattle.plan.proofs.Entries.{IsPlain, plains, length_entries, bytes_again, past, passed, none_bad}
 
@@ -85,46 +84,57 @@ pub read_good : (m : ℕ) (s : List ℕ) → length s ≡ record_bytes * (length
     → read_with m s ≡ taken (records_in (parts s))
 read_good m s l g = rw (read_whole m _ s l, same g)
 
-module _ (m : ℕ) (s : List ℕ) (e : (read_with m s).number ≡ 0) where
+-- A refused read hands back a plan without records.
+pub refused_plan : (x : Reading) → (number_in x ≡ 0 → ⊥) → plan_in x ≡ plan_of []
+refused_plan (Ok p) n = absurd (n refl)
+refused_plan (Err x) n = refl
+
+module _ (m : ℕ) (s : List ℕ) (e : number_in (read_with m s) ≡ 0) where
   pub whole : length s ≡ record_bytes * (length s / record_bytes)
   unfolding read_with
   whole =
-      let a = past (λ (x : Reading). x.number) (eqb (length s) 0) (refused (refusal 1 0)) _ (omega arith) e in
-      let b = past (λ (x : Reading). x.number) (not (eqb (length s % record_bytes) 0)) (refused (refusal 2 0)) _ (omega arith) a.1 in
+      let a = past number_in (eqb (length s) 0) (refused (refusal 1 0)) _ (omega arith) e in
+      let b = past number_in (not (eqb (length s % record_bytes) 0)) (refused (refusal 2 0)) _ (omega arith) a.1 in
       omega (arith, eqb-true (length s % record_bytes) 0 (not-false _ b.0))
 
   pub found : Good m (length s / record_bytes) (parts s)
-  found = good m _ _ (passed (λ (x : Reading). x.number) _ _ _ refl (rw (read_whole m _ s whole) at e))
+  found =
+      let x = verdict m (length s / record_bytes) (parts s) in
+      good m _ _ (passed number_in x.number (taken (records_in (parts s))) (refused x) refl (rw (read_whole m _ s whole) at e))
 
   pub read_taken : read_with m s ≡ taken (records_in (parts s))
   read_taken = read_good m s whole found
 
-  pub read_count : (read_with m s).plan.count ≡ length s / record_bytes
+  pub read_count : (plan_in (read_with m s)).count ≡ length s / record_bytes
   read_count = rw (read_taken, length-map, length_entries)
 
-  pub read_records : records_of (read_with m s).plan ≡ records_in (parts s)
+  pub read_records : records_of (plan_in (read_with m s)) ≡ records_in (parts s)
   read_records = rw (read_taken, records_of_plan)
 
   -- What reading accepts passes the check.
-  pub read_is_checked : check_with m (read_with m s).plan ≡ accepted
+  pub read_is_checked : check_with m (plan_in (read_with m s)) ≡ accepted
   unfolding check_with
   read_is_checked = (λ i. verdict m (read_count i) (map plain (read_records i))) ∙ rw (plains _ (all_plain_lem found)) (same found)
 
   -- Accepted bytes are sixteen for each record of the plan read.
-  pub read_length : record_bytes * (read_with m s).plan.count ≡ length s
+  pub read_length : record_bytes * (plan_in (read_with m s)).count ≡ length s
   read_length = rw read_count (sym whole)
 
   module _ (b : All IsByte s) where
     -- Accepted bytes, read and written, are the same bytes.
-    pub file_back : file_of (read_with m s).plan ≡ s
+    pub file_back : file_of (plan_in (read_with m s)) ≡ s
     file_back = rw read_records (bytes_again _ s b whole (all_plain_lem found))
 
-    write_accepts : (out : List ℕ) → length s ≤ length out → write_with m (read_with m s).plan out ≡ accepted
+    write_accepts : (out : List ℕ) → length s ≤ length out → write_with m (plan_in (read_with m s)) out ≡ accepted
     unfolding write_with
     write_accepts out l = rw (read_is_checked, read_length, le-ltb (length out) (length s) l)
 
     -- Writing a plan that was read is accepted, and puts the bytes that were read over the front of the buffer.
     pub write_back : (out : List ℕ) → length s ≤ length out
-        → (write_with m (read_with m s).plan out ≡ accepted) × (written_with m (read_with m s).plan out ≡ s ++ drop (length s) out)
+        → (write_with m (plan_in (read_with m s)) out ≡ accepted) × (written_with m (plan_in (read_with m s)) out ≡ s ++ drop (length s) out)
     unfolding written_with
     write_back out l = let w = write_accepts out l in (w, rw (w, file_back, read_length))
+
+-- A file that is not read is refused with a number.
+pub refused_number : (m : ℕ) (s : List ℕ) (x : Refusal) → Err x ≡ read_with m s → x.number ≡ 0 → ⊥
+refused_number m s x e z = let t : Err x ≡ taken (records_in (parts s)) = e ∙ read_taken m s (sym (ap number_in e) ∙ z) in cc

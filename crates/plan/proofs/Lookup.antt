@@ -8,13 +8,11 @@ use native.Mathlib.Omega.{arith}
 use native.Mathlib.Numerals.{add-one}
 use lib.ListN.{length, take, drop, get_or, length-take, drop_of_length-le}
 use lib.Seq.{take-suc, drop-cons, take_all}
-use Rattle.std.specs.Prelude.{if◌then◌else◌}
+use Rattle.std.specs.Prelude.{if◌then◌else◌, Some, None, is_some}
 use Rattle.plan.specs.APlan.{blank, one, how_many, some, place_from}
 use Rattle.plan.proofs.Records.{many_snoc}
 use Rattle.records.proofs.Records.{many_le}
 use Rattle.records.specs.declared.Record.{Record}
-use Rattle.plan.specs.declared.Found.{Found}
-use Rattle.plan.specs.declared.Found.TheVariants.{At, Nothing}
 
 -- how many of the first i records are so
 module _ (so : Record → Bool) (rs : List Record) (i : ℕ) where
@@ -29,7 +27,7 @@ module _ (so : Record → Bool) (rs : List Record) (i : ℕ) where
 
 -- the first record that is so, from place i on
 module _ (so : Record → Bool) (rs : List Record) (i : ℕ) where
-  pub found_here : i < length rs → so (get_or rs i blank) ≡ true → At i ≡ place_from i so (drop i rs)
+  pub found_here : i < length rs → so (get_or rs i blank) ≡ true → Some i ≡ place_from i so (drop i rs)
   unfolding place_from
   found_here h e = rw (drop-cons rs i blank h, e)
 
@@ -37,20 +35,16 @@ module _ (so : Record → Bool) (rs : List Record) (i : ℕ) where
   unfolding place_from
   found_later h e = rw (drop-cons rs i blank h, e, add-one i)
 
-  pub found_nowhere : length rs ≤ i → Nothing ≡ place_from i so (drop i rs)
+  pub found_nowhere : length rs ≤ i → None ≡ place_from i so (drop i rs)
   unfolding place_from
   found_nowhere h = rw (drop_of_length-le rs h)
 
-abbrev pub is_at : Found → Bool
-is_at (At i) = true
-is_at Nothing = false
-
 -- one is so where the first that is so has a place
-pub found_some : (so : Record → Bool) (i : ℕ) (rs : List Record) → is_at (place_from i so rs) ≡ some so rs
+pub found_some : (so : Record → Bool) (i : ℕ) (rs : List Record) → is_some (place_from i so rs) ≡ some so rs
 unfolding place_from some
 found_some so i [] = refl
 found_some so i (r ∷ rs) = by_test (so r) (found_some so (suc i) rs)
   where
-    by_test : (b : Bool) → is_at (place_from (suc i) so rs) ≡ some so rs → is_at (if b then At i else place_from (suc i) so rs) ≡ (b || some so rs)
+    by_test : (b : Bool) → is_some (place_from (suc i) so rs) ≡ some so rs → is_some (if b then Some i else place_from (suc i) so rs) ≡ (b || some so rs)
     by_test true e = refl
     by_test false e = e

@@ -15,7 +15,7 @@ use Rattle.std.specs.Prelude.{if◌then◌else◌}
 use Rattle.plan.specs.Limits.{most_ordinary, most_records, record_bytes}
 use Rattle.plan.specs.APlan.{records_of, plan_of}
 use Rattle.plan.specs.PlanFile.{entries_in, file_of}
-use Rattle.plan.specs.ReplyNumbers.{refusal, accepted, refused, taken, read_of, check_of, check_with, write_of, write_with, written_of, written_with}
+use Rattle.plan.specs.ReplyNumbers.{refusal, accepted, refused, taken, read_of, check_of, check_with, write_of, write_with, written_of, written_with, number_in, plan_in}
 use Rattle.plan.specs.Held.{All, IsByte, Held, HeldPlan, plain, refusal_in, HasFile}
 use Rattle.plan.specs.declared.Plan.{Plan}
 use Rattle.plan.proofs.Entries.{all_take, length_bytes, all_are_bytes, entries_back, whats}
@@ -97,31 +97,31 @@ written_reads_back p h out e =
 
 -- A written plan whose unused room is zero reads back as itself.
 pub written_reads_whole : (p : Plan) → HeldPlan p → p ≡ plan_of (records_of p) → (out : List ℕ) → (write_of p out).number ≡ 0
-    → (read_of (take (record_bytes * p.count) (written_of p out))).plan ≡ p
+    → plan_in (read_of (take (record_bytes * p.count) (written_of p out))) ≡ p
 written_reads_whole p h z out e = rw (written_reads_back p h out e) (sym z)
 
 -- ---- from a file
 
 -- What reading accepts passes the check.
-pub read_is_checked : (s : List ℕ) → (read_of s).number ≡ 0 → check_of (read_of s).plan ≡ accepted
+pub read_is_checked : (s : List ℕ) → number_in (read_of s) ≡ 0 → check_of (plan_in (read_of s)) ≡ accepted
 read_is_checked s e = Limited.read_is_checked most_ordinary s e
 
 -- Accepted bytes are sixteen for each record of the plan read.
-pub read_length : (s : List ℕ) → (read_of s).number ≡ 0 → record_bytes * (read_of s).plan.count ≡ length s
+pub read_length : (s : List ℕ) → number_in (read_of s) ≡ 0 → record_bytes * (plan_in (read_of s)).count ≡ length s
 read_length s e = Limited.read_length most_ordinary s e
 
 -- Accepted bytes, read and written, are the same bytes.
-pub file_back : (s : List ℕ) → All IsByte s → (read_of s).number ≡ 0 → file_of (read_of s).plan ≡ s
+pub file_back : (s : List ℕ) → All IsByte s → number_in (read_of s) ≡ 0 → file_of (plan_in (read_of s)) ≡ s
 file_back s b e = Limited.file_back most_ordinary s e b
 
 -- Writing a plan that was read is accepted, and puts the bytes that were read over the front of the buffer.
-pub write_back : (s : List ℕ) → All IsByte s → (read_of s).number ≡ 0 → (out : List ℕ) → length s ≤ length out
-    → (write_of (read_of s).plan out ≡ accepted) × (written_of (read_of s).plan out ≡ s ++ drop (length s) out)
+pub write_back : (s : List ℕ) → All IsByte s → number_in (read_of s) ≡ 0 → (out : List ℕ) → length s ≤ length out
+    → (write_of (plan_in (read_of s)) out ≡ accepted) × (written_of (plan_in (read_of s)) out ≡ s ++ drop (length s) out)
 write_back s b e out l = Limited.write_back most_ordinary s e b out l
 
 -- Two files of bytes that are read as the same plan are the same file.
-pub one_file : (s t : List ℕ) → All IsByte s → All IsByte t → (read_of s).number ≡ 0 → (read_of t).number ≡ 0
-    → (read_of s).plan ≡ (read_of t).plan → s ≡ t
+pub one_file : (s t : List ℕ) → All IsByte s → All IsByte t → number_in (read_of s) ≡ 0 → number_in (read_of t) ≡ 0
+    → plan_in (read_of s) ≡ plan_in (read_of t) → s ≡ t
 one_file s t b c e f q = sym (file_back s b e) ∙ ap (λ (p : Plan). file_of p) q ∙ file_back t c f
 
 -- A plan passes the check exactly if some file reads back to its records.
@@ -134,4 +134,4 @@ accepted_exactly p h = (λ c. forth c (checked p c).few, back)
         (file_of p, all_are_bytes (records_of p) (records_held p h), rw r, rw r (length_records p h few), rw r (records_of_plan (records_of p)))
 
     back : HasFile p → (check_of p).number ≡ 0
-    back f = rw (← check_by_records (read_of f.0).plan p f.3 f.4, read_is_checked f.0 f.2)
+    back f = rw (← check_by_records (plan_in (read_of f.0)) p f.3 f.4, read_is_checked f.0 f.2)

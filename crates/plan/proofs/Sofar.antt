@@ -2,7 +2,7 @@
 -- what it gives at a bad record and at the end. Assumes nothing.
 use mathlib.Core.Path.{◌≡◌, refl, ◌∙◌}
 use mathlib.Core.Bool.{Bool, true, false}
-use mathlib.Core.List.{List, [], ◌∷◌, ◌++◌, map, map-append}
+use mathlib.Core.List.{List, [], ◌∷◌, ◌++◌, map-append}
 use Prim.Native.Nat.{ℕ, suc, ◌+◌, ◌%◌, ◌≤◌, ◌<◌}
 use native.Mathlib.Omega.{arith}
 use native.Mathlib.Numerals.{add-one}
@@ -10,7 +10,7 @@ use lib.Dec.{eqb}
 use lib.ListN.{length, take, drop, get_or, set, replicate, length-map, drop_of_length-le}
 use lib.Seq.{take-suc, drop-cons, length-take-le, set-get_or}
 use borrow.Author.Tests.{eqb-true, ne_eqb}
-use Rattle.std.specs.Prelude.{if◌then◌else◌}
+use Rattle.std.specs.Prelude.{if◌then◌else◌, Ok, Err}
 use Rattle.plan.specs.Limits.{most_points, most_records}
 use Rattle.plan.specs.APlan.{point, link, ordinary, wait, is, blank}
 use Rattle.plan.specs.PlanFile.{Entry}
@@ -23,7 +23,6 @@ use Rattle.rules.proofs.Shows.{Shows, shows_none, same_number, shows_more}
 use Rattle.records.specs.declared.Record.{Record}
 use Rattle.rules.specs.declared.Seen.{Seen}
 use Rattle.rules.specs.declared.Ending.{Ending}
-use Rattle.rules.specs.declared.One.TheVariants.{Good, Bad}
 
 -- one entry: it is bad, or the next is looked at
 module _ (rs : List Record) (e : Entry) (es : List Entry) where
@@ -39,11 +38,11 @@ module _ (rs : List Record) (e : Entry) (es : List Entry) where
   good_here h = rw h
 
 -- what the one-record reader's answer says of the number
-said_bad : (n k : ℕ) (t : Seen) (b : Bool) → eqb n 0 ≡ b → (if b then Good t else Bad n) ≡ Bad k → (eqb n 0 ≡ false) × (n ≡ k)
+said_bad : (n k : ℕ) (t : Seen) (b : Bool) → eqb n 0 ≡ b → (if b then Ok t else Err n) ≡ Err k → (eqb n 0 ≡ false) × (n ≡ k)
 said_bad n k t true q e = absurd (let z : ◌≡◌ {A = ℕ} 0 1 = cc in omega arith)
 said_bad n k t false q e = (q, cc)
 
-said_good : (n : ℕ) (t u : Seen) (b : Bool) → eqb n 0 ≡ b → (if b then Good t else Bad n) ≡ Good u → (eqb n 0 ≡ true) × (t ≡ u)
+said_good : (n : ℕ) (t u : Seen) (b : Bool) → eqb n 0 ≡ b → (if b then Ok t else Err n) ≡ Ok u → (eqb n 0 ≡ true) × (t ≡ u)
 said_good n t u true q e = (q, cc)
 said_good n t u false q e = absurd (let z : ◌≡◌ {A = ℕ} 0 1 = cc in omega arith)
 
@@ -93,7 +92,7 @@ module _ (es : List Entry) (i : ℕ) (s : Seen) (ends : List Ending) (seconds : 
     rest_here = rw (drop-cons es i (plain blank) h, here) at f.rest
 
     -- a bad record is the first
-    pub sofar_bad : (k : ℕ) → one_of s end led next.what next.reserved ≡ Bad k → refusal k i ≡ first_bad [] es
+    pub sofar_bad : (k : ℕ) → one_of s end led next.what next.reserved ≡ Err k → refusal k i ≡ first_bad [] es
     unfolding one_of
     sofar_bad k e =
         let b = said_bad kept_number k (with_record s next.what) (eqb kept_number 0) refl e in
@@ -101,7 +100,7 @@ module _ (es : List Entry) (i : ℕ) (s : Seen) (ends : List Ending) (seconds : 
         rw (← rest_here, bad_here before next (drop (suc i) es) (rw number_here at b.0), ← number_here, b.1, n)
 
     -- with a record that is not bad it goes on
-    pub sofar_good : (t : Seen) → one_of s end led next.what next.reserved ≡ Good t → Sofar es (i + 1) t (set ends (next.what.b % most_points) (ending_after next.what end)) (set seconds (next.what.a % most_points) (seconds_after next.what led))
+    pub sofar_good : (t : Seen) → one_of s end led next.what next.reserved ≡ Ok t → Sofar es (i + 1) t (set ends (next.what.b % most_points) (ending_after next.what end)) (set seconds (next.what.a % most_points) (seconds_after next.what led))
     unfolding one_of
     sofar_good t e =
         let b = said_good kept_number (with_record s next.what) t (eqb kept_number 0) refl e in
@@ -114,13 +113,13 @@ module _ (es : List Entry) (i : ℕ) (s : Seen) (ends : List Ending) (seconds : 
         })
 
     -- an ordinary record leaves the table of links as it is, any other the sets of seconds
-    pub sofar_ordinary : (t : Seen) → one_of s end led next.what next.reserved ≡ Good t → next.what.kind ≡ 3
+    pub sofar_ordinary : (t : Seen) → one_of s end led next.what next.reserved ≡ Ok t → next.what.kind ≡ 3
         → Sofar es (i + 1) t ends (set seconds (next.what.a % most_points) (seconds_after next.what led))
     sofar_ordinary t e k =
         let f : ending_after next.what end ≡ end = rw k in
         rw (f, set-get_or ends (next.what.b % most_points) no_ending) at (sofar_good t e)
 
-    pub sofar_other : (t : Seen) → one_of s end led next.what next.reserved ≡ Good t → (next.what.kind ≡ 3 → ⊥)
+    pub sofar_other : (t : Seen) → one_of s end led next.what next.reserved ≡ Ok t → (next.what.kind ≡ 3 → ⊥)
         → Sofar es (i + 1) t (set ends (next.what.b % most_points) (ending_after next.what end)) seconds
     sofar_other t e n =
         let f : seconds_after next.what led ≡ led = rw (ne_eqb next.what.kind 3 n) in

@@ -3,9 +3,8 @@
 use Rattle.std.specs.Prelude.{◌≡◌, List, ℕ, length}
 use Rattle.plan.specs.Limits.{most_records}
 use Rattle.plan.specs.APlan.{records_of}
-use Rattle.plan.specs.ReplyNumbers.{refusal, read_of}
+use Rattle.plan.specs.ReplyNumbers.{Reading, refusal, number_in, place_in, plan_in, read_of}
 use Rattle.plan.specs.declared.Plan.{Plan}
-use Rattle.plan.specs.declared.Reading.{Reading}
 use Rattle.plan.specs.declared.Refusal.{Refusal}
 pub use Rattle.numbers.specs.Fits.{All, IsByte}
 pub use Rattle.records.specs.Held.{Held, plain}
@@ -17,9 +16,9 @@ pub record HeldPlan (p : Plan) : Type 0 where
 
 -- a reading's number and place
 abbrev pub refusal_in : Reading → Refusal
-refusal_in x = refusal x.number x.place
+refusal_in x = refusal (number_in x) (place_in x)
 
 -- some file is accepted and reads back to the plan's records
 abbrev pub HasFile : Plan → Type 0
 HasFile p =
-    (s : List ℕ) × All IsByte s × ((read_of s).number ≡ 0) × ((read_of s).plan.count ≡ p.count) × (records_of (read_of s).plan ≡ records_of p)
+    (s : List ℕ) × All IsByte s × (number_in (read_of s) ≡ 0) × ((plan_in (read_of s)).count ≡ p.count) × (records_of (plan_in (read_of s)) ≡ records_of p)

@@ -1,12 +1,11 @@
 -- Document 01, "Reply numbers", 1 to 12: what reading, checking and writing answer. What one record is refused for, 4 to 11 and 15, is
 -- handed on from `rules`. Number 0 is no number of the document: it says that nothing is refused. Assumes nothing.
-use Rattle.std.specs.Prelude.{not, List, [], ◌∷◌, ◌++◌, map, ℕ, ◌*◌, ◌/◌, ◌%◌, eqb, ltb, length, drop, if◌then◌else◌}
+use Rattle.std.specs.Prelude.{not, List, [], ◌∷◌, ◌++◌, map, ℕ, ◌*◌, ◌/◌, ◌%◌, eqb, ltb, length, drop, Result, Ok, Err, if◌then◌else◌}
 use Rattle.records.specs.declared.Record.{Record}
 use Rattle.plan.specs.Limits.{most_ordinary, records_with, record_bytes}
 use Rattle.plan.specs.APlan.{records_of, plan_of}
 use Rattle.plan.specs.PlanFile.{Entry, entries_in, file_of}
 use Rattle.plan.specs.declared.Plan.{Plan}
-use Rattle.plan.specs.declared.Reading.{Reading}
 use Rattle.plan.specs.declared.Refusal.{Refusal}
 pub use Rattle.numbers.specs.Numbers.{is_nought}
 pub use Rattle.rules.specs.OneRecord.{Before, after, is_known, in_order, room_for_with, room_for, zeros, named, apart, joined, bounded, number_for, number_with, number_of}
@@ -31,12 +30,28 @@ first_bad_with m rs (e ∷ es) =
 abbrev pub first_bad : List Record → List Entry → Refusal
 first_bad rs es = first_bad_with most_ordinary rs es
 
--- a refused read hands back a plan without records
+-- what reading answers: the plan, or the number and the first bad record
+abbrev pub Reading : Type 0
+Reading = Result Plan Refusal
+
 abbrev pub refused : Refusal → Reading
-refused x = record { number = x.number; place = x.place; plan = plan_of [] }
+refused x = Err x
 
 abbrev pub taken : List Record → Reading
-taken rs = record { number = 0; place = 0; plan = plan_of rs }
+taken rs = Ok (plan_of rs)
+
+-- its number and its place, 0 where the plan is read; and its plan: a refused read hands back none, which is a plan without records
+abbrev pub number_in : Reading → ℕ
+number_in (Ok p) = 0
+number_in (Err x) = x.number
+
+abbrev pub place_in : Reading → ℕ
+place_in (Ok p) = 0
+place_in (Err x) = x.place
+
+abbrev pub plan_in : Reading → Plan
+plan_in (Ok p) = p
+plan_in (Err x) = plan_of []
 
 -- the records of the entries, if none is bad
 abbrev pub read_entries_with : ℕ → List Entry → Reading

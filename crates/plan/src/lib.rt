@@ -9,19 +9,19 @@ ghost use Rattle.std.specs.Prelude.{◌≡◌, [], min};
 ghost use Rattle.plan.specs.Limits.{most_records};
 ghost use Rattle.plan.specs.APlan.{plan_of, records_of, how_many, points, links, ends_at, watched, place_of};
 ghost use Rattle.plan.specs.Inside.{of_byte};
-ghost use Rattle.plan.specs.ReplyNumbers.{check_of, refusal, refused};
+ghost use Rattle.plan.specs.ReplyNumbers.{check_of, plan_in, refusal, refused};
 
 pub use numbers::{Gap, split};
+use records::blanks;
 pub use records::{
     FARTHEST, LINK, MOST_LINKS, MOST_ORDINARY, MOST_POINTS, MOST_RECORDS, MOST_WAITS, ORDINARY,
     POINT, RECORD_BYTES, Record, WAIT,
 };
-use records::{blanks, one_if};
 pub use rules::{
     ACCEPTED, KIND_FALLS, NOT_JOINED, NOT_NAMED, NOT_ZERO, OUT_OF_BOUNDS, SAME_POINT, TOO_MANY,
     TWIN, UNKNOWN_KIND,
 };
-use rules::{Ending, One, Seen, ending_after, number_in, seconds_after};
+use rules::{Ending, Seen, ending_after, number_in, seconds_after};
 
 // A place for each point, in arrays.
 const POINT_ROOM: usize = MOST_POINTS as usize;
@@ -37,6 +37,7 @@ pub const TOO_LONG: u32 = 3;
 pub const NO_ROOM: u32 = 12;
 
 // A plan is its first `count` records, in file order. What stands in the room after them counts for nothing.
+// A room with its length beside it: the project has no heap.
 #[derive(Clone, Copy)]
 pub struct Plan {
     pub count: u32,
@@ -44,25 +45,11 @@ pub struct Plan {
 }
 
 // A reply number and the record that it is about; number 0 where nothing is refused.
+// `check_of` answers one for every plan, and the theorems speak of its number 0: so no Result.
 #[derive(Clone, Copy)]
 pub struct Refusal {
     pub number: u32,
     pub place: u32,
-}
-
-// What reading answers: number 0 and the plan, or a number, the first bad record and a plan without records.
-#[derive(Clone, Copy)]
-pub struct Reading {
-    pub number: u32,
-    pub place: u32,
-    pub plan: Plan,
-}
-
-// Where a record is, if it is in the plan.
-#[derive(Clone, Copy)]
-pub enum Found {
-    At(u32),
-    Nothing,
 }
 
 // A plan without records, all its room zero, whatever number is handed in (`blanks` of `records`).
@@ -70,30 +57,32 @@ pub fn empty(any: usize) -> Plan
     ensures { result ≡ plan_of [] }
 {
     let records = blanks(any);
-    Plan {
-        count: 0,
-        records: records,
-    }
+    Plan { count: 0, records }
 }
 
-// What reading answers where it refuses: no record of the file is shown.
-pub fn refuse(number: u32, place: u32) -> Reading
+// What reading answers where it refuses.
+pub fn refuse(number: u32, place: u32) -> Result<Plan, Refusal>
     ensures { result ≡ refused (refusal number place) }
 {
-    let plan = empty(place as usize);
-    Reading {
-        number: number,
-        place: place,
-        plan: plan,
+    Err(Refusal::new(number, place))
+}
+
+// The plan that was read, for who goes on with one either way: where reading refused, no record of the file is shown.
+pub fn plan_in(reading: Result<Plan, Refusal>) -> Plan
+    ensures { result ≡ plan_in reading }
+{
+    match reading {
+        Ok(plan) => plan,
+        Err(_) => empty(0),
     }
 }
 
-fn answer(number: u32, place: u32) -> Refusal
-    ensures { result ≡ refusal number place }
-{
-    Refusal {
-        number: number,
-        place: place,
+impl Refusal {
+    // A number and the record that it is about.
+    pub fn new(number: u32, place: u32) -> Refusal
+        ensures { result ≡ refusal number place }
+    {
+        Refusal { number, place }
     }
 }
 
@@ -102,10 +91,10 @@ pub fn check(plan: Plan) -> Refusal
     ensures { result ≡ check_of plan }
 {
     if plan.count == 0 {
-        return answer(NO_BYTES, 0);
+        return Refusal::new(NO_BYTES, 0);
     }
     if MOST_RECORDS < plan.count as usize {
-        return answer(TOO_LONG, 0);
+        return Refusal::new(TOO_LONG, 0);
     }
     let count = plan.count as usize;
     let mut seen = Seen::none();
@@ -115,34 +104,31 @@ pub fn check(plan: Plan) -> Refusal
     };
     let mut ends = [nothing; POINT_ROOM];
     let mut seconds = [0u32; POINT_ROOM];
-    let mut i: usize = 0;
-    while i < count {
+    for i in 0..count {
         let r = plan.records[i];
         let c = r.b as usize % POINT_ROOM;
         let end = ends[c];
         let a = r.a as usize % POINT_ROOM;
         let led = seconds[a];
         let one = seen.read_one(r, 0, end, led);
-        let One::Good(next) = one else {
-            return answer(number_in(one), i as u32);
+        let Ok(next) = one else {
+            return Refusal::new(number_in(one), i as u32);
         };
         seen = next;
-        i += 1;
         if r.kind == ORDINARY {
             seconds[a] = seconds_after(r, led);
             continue;
         }
         ends[c] = ending_after(r, end);
     }
-    answer(ACCEPTED, 0)
+    Refusal::new(ACCEPTED, 0)
 }
 
 // How many records of a plan there are, as far as it has room.
-fn used(count: u32) -> usize
+pub fn used(count: u32) -> usize
     ensures { result ≡ min count most_records }
 {
-    let n = count as usize;
-    if n < MOST_RECORDS { n } else { MOST_RECORDS }
+    MOST_RECORDS.min(count as usize)
 }
 
 // How many records of a kind a plan has.
@@ -151,11 +137,9 @@ fn count_of(plan: Plan, kind: u8) -> u32
 {
     let count = used(plan.count);
     let mut n: u32 = 0;
-    let mut i: usize = 0;
-    while i < count {
+    for i in 0..count {
         let r = plan.records[i];
-        n += one_if(r.kind == kind);
-        i += 1;
+        n += u32::from(r.kind == kind);
     }
     n
 }
@@ -175,27 +159,22 @@ pub fn links_of(plan: Plan) -> u32
 }
 
 // The link that ends at a point, by its number in the file.
-pub fn link_to(plan: Plan, p: u8) -> Found
+pub fn link_to(plan: Plan, p: u8) -> Option<u32>
     ensures { result ≡ place_of (ends_at p) (records_of plan) }
 {
     let count = used(plan.count);
-    let mut i: usize = 0;
-    while i < count {
+    for i in 0..count {
         let r = plan.records[i];
         if (r.kind == LINK) & (p == r.b) {
-            return Found::At(i as u32);
+            return Some(i as u32);
         }
-        i += 1;
     }
-    Found::Nothing
+    None
 }
 
 // Whether a point is watched.
 pub fn is_watched(plan: Plan, p: u8) -> bool
     ensures { result ≡ watched (records_of plan) p }
 {
-    match link_to(plan, p) {
-        Found::At(_) => true,
-        Found::Nothing => false,
-    }
+    link_to(plan, p).is_some()
 }

@@ -4,14 +4,14 @@ use Prim.Native.Nat.{ℕ, ◌/◌, ◌%◌, ◌≤◌, ◌<◌}
 use native.Mathlib.Omega.{arith}
 use mathlib.Core.List.{List, []}
 use lib.ListN.{length}
+use Rattle.std.specs.Prelude.{Ok}
 use borrow.Author.Tests.{eq-eqb, ne_eqb, lt-ltb, le-ltb}
 use Rattle.plan.specs.Limits.{most_records, record_bytes}
 use Rattle.plan.specs.APlan.{plan_of}
 use Rattle.plan.specs.PlanFile.{entries_in}
 use Rattle.plan_file.specs.Inside.{records_in}
-use Rattle.plan.specs.ReplyNumbers.{refusal, refused, first_bad, read_with, read_of}
+use Rattle.plan.specs.ReplyNumbers.{Reading, refusal, refused, taken, first_bad, read_with, read_of}
 use Rattle.plan.specs.declared.Plan.{Plan}
-use Rattle.plan.specs.declared.Reading.{Reading}
 use Rattle.plan.specs.declared.Refusal.{Refusal}
 
 module _ (s : List ℕ) where
@@ -38,8 +38,8 @@ module _ (s : List ℕ) where
       read_bad b x a =
           rw (ne_eqb (length s) 0 (omega arith), eq-eqb (length s % record_bytes) 0 w, le-ltb most_records count l, ← e, ne_eqb f.number 0 (omega arith)) a
 
-      pub read_plan : f.number ≡ 0 → (p : Plan) → p ≡ plan_of (records_in count s) → ◌≡◌ {A = Reading} record { number = 0; place = 0; plan = p } (read_of s)
+      pub read_plan : f.number ≡ 0 → (p : Plan) → p ≡ plan_of (records_in count s) → Ok p ≡ read_of s
       unfolding read_with
       read_plan z p q =
           rw (ne_eqb (length s) 0 (omega arith), eq-eqb (length s % record_bytes) 0 w, le-ltb most_records count l, ← e, eq-eqb f.number 0 z)
-          (ap (λ (p : Plan). record { number = 0; place = 0; plan = p }) q)
+          (ap Ok q)

@@ -11,8 +11,8 @@ ghost use Rattle.plan.specs.ReplyNumbers.{first_bad, read_of, check_of, write_of
 ghost use Rattle.plan_file.specs.Inside.{records_in, first_odd, with_odd};
 
 use plan::{
-    ACCEPTED, MOST_RECORDS, NO_BYTES, NO_ROOM, NOT_WHOLE, NOT_ZERO, Plan, RECORD_BYTES, Reading,
-    Refusal, TOO_LONG, check, empty, refuse,
+    ACCEPTED, MOST_RECORDS, NO_BYTES, NO_ROOM, NOT_WHOLE, NOT_ZERO, Plan, RECORD_BYTES, Refusal,
+    TOO_LONG, check, empty, refuse,
 };
 use records::{put_records, record_in};
 
@@ -23,11 +23,9 @@ fn decode(bytes: &[u8], count: usize) -> Plan
 {
     let mut plan = empty(count);
     plan.count = count as u32;
-    let mut i: usize = 0;
-    while i < count {
+    for i in 0..count {
         let at = RECORD_BYTES * i;
         plan.records[i] = record_in(&bytes[at..]);
-        i += 1;
     }
     plan
 }
@@ -37,12 +35,10 @@ fn first_odd(bytes: &[u8], count: usize) -> usize
     requires { record_bytes * count ≤ length bytes.now }
     ensures { result ≡ first_odd (entries_in count bytes.now) }
 {
-    let mut i: usize = 0;
-    while i < count {
+    for i in 0..count {
         if bytes[RECORD_BYTES * i + 3] != 0 {
             return i;
         }
-        i += 1;
     }
     count
 }
@@ -56,10 +52,7 @@ fn with_odd(found: Refusal, odd: u32) -> Refusal
     if (found.number != ACCEPTED) & sooner {
         found
     } else {
-        Refusal {
-            number: NOT_ZERO,
-            place: odd,
-        }
+        Refusal::new(NOT_ZERO, odd)
     }
 }
 
@@ -76,7 +69,7 @@ fn first_bad(found: Refusal, bytes: &[u8], count: usize) -> Refusal
 }
 
 // Reads a plan file: the plan, or the number and the first bad record.
-pub fn read(bytes: &[u8]) -> Reading
+pub fn read(bytes: &[u8]) -> Result<Plan, Refusal>
     ensures { result ≡ read_of bytes.now }
 {
     let n = bytes.len();
@@ -93,13 +86,9 @@ pub fn read(bytes: &[u8]) -> Reading
     let plan = decode(bytes, count);
     let found = first_bad(check(plan), bytes, count);
     if found.number != ACCEPTED {
-        return refuse(found.number, found.place);
+        return Err(found);
     }
-    Reading {
-        number: ACCEPTED,
-        place: 0,
-        plan: plan,
-    }
+    Ok(plan)
 }
 
 // Writes a plan's file into the front of the buffer; a refusal changes no byte of it.
@@ -112,10 +101,7 @@ pub fn write(plan: Plan, out: &mut [u8]) -> Refusal
         return found;
     }
     if out.len() < RECORD_BYTES * (plan.count as usize) {
-        return Refusal {
-            number: NO_ROOM,
-            place: 0,
-        };
+        return Refusal::new(NO_ROOM, 0);
     }
     let records = plan.records;
     put_records(records, plan.count as usize, out);

@@ -1,7 +1,7 @@
 // Split and the lookups: points_of, link_to and is_watched.
 use crate::say::{decimal, one, pair, text};
 use plan::{
-    FARTHEST, Found, LINK, MOST_RECORDS, POINT, Plan, Record, is_watched, link_to, points_of, split,
+    FARTHEST, LINK, MOST_RECORDS, POINT, Plan, Record, is_watched, link_to, points_of, split,
 };
 use std::io::Stdout;
 
@@ -26,11 +26,11 @@ pub fn signed_numbers(out: Stdout) {
 fn finds(out: Stdout, name: &[u8], p: Plan, c: u8) {
     text(out, name);
     match link_to(p, c) {
-        Found::At(i) => {
+        Some(i) => {
             text(out, b": at ");
             decimal(out, i);
         }
-        Found::Nothing => text(out, b": nothing"),
+        None => text(out, b": nothing"),
     }
     if is_watched(p, c) {
         text(out, b", watched\n");
@@ -72,7 +72,7 @@ fn replaced(plan: Plan, i: usize, r: Record) -> Plan {
 // A record with every field set.
 fn garbage(kind: u8) -> Record {
     Record {
-        kind: kind,
+        kind,
         a: 255,
         b: 255,
         first: -2147483648,

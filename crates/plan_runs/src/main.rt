@@ -7,7 +7,7 @@ mod lookups;
 mod say;
 
 use handles::read_full;
-use plan::Plan;
+use plan::{Plan, plan_in};
 use std::io::Stdin;
 
 const HAUL: usize = plan::RECORD_BYTES * lookups::HAUL_RECORDS as usize;
@@ -17,13 +17,13 @@ const TWO_LINKS: usize = plan::RECORD_BYTES * 7;
 fn haul(input: Stdin) -> Plan {
     let mut bytes = [0u8; HAUL];
     let n = read_full(input, &mut bytes);
-    plan_file::read(&bytes[..n]).plan
+    plan_in(plan_file::read(&bytes[..n]))
 }
 
 fn two_links(input: Stdin) -> Plan {
     let mut bytes = [0u8; TWO_LINKS];
     let n = read_full(input, &mut bytes);
-    plan_file::read(&bytes[..n]).plan
+    plan_in(plan_file::read(&bytes[..n]))
 }
 
 fn main(rt: HostRuntime) {

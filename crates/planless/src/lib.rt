@@ -12,12 +12,10 @@ ghost use Rattle.planless.specs.ByWindows.{stuck_by, later_by, number_by, with_r
 use events::{event_in, is_formed};
 use history::{ROOM, first_points};
 use links::Links;
-use lowhigh::{FARTHEST, NEVER, lesser, past};
+use lowhigh::{FARTHEST, NEVER};
 use plan::Refusal;
 use running::{any_running, set_number_of};
-use windows::{
-    ALL_DONE, IS_STUCK, NOT_FORMED, Windows, all_above, point_number, record_beside, refusal,
-};
+use windows::{ALL_DONE, IS_STUCK, NOT_FORMED, Windows, all_above, point_number, record_beside};
 
 // Nothing is open and no link is running, or something is open and every open Low is above H.
 pub fn stuck_from(links: Links, done: u32, w: Windows) -> bool
@@ -35,9 +33,10 @@ pub fn latest_from(clock: u32, high: u32) -> u32
     ensures { result ≡ latest_from clock high }
 {
     if clock < NEVER - FARTHEST - FARTHEST {
-        past(lesser(high, clock + FARTHEST + FARTHEST), FARTHEST)
+        high.min(clock + FARTHEST + FARTHEST)
+            .saturating_sub(FARTHEST)
     } else {
-        past(high, FARTHEST)
+        high.saturating_sub(FARTHEST)
     }
 }
 
@@ -53,12 +52,12 @@ fn later_from(
     ensures { result ≡ with_record links done w event.now (later_by links clock done minutes w event.now) }
 {
     if !is_formed(event, links.points) {
-        return refusal(NOT_FORMED, 0);
+        return Refusal::new(NOT_FORMED, 0);
     }
     let e = event_in(event);
     let last = point_number(w, latest_from(clock, w.high), e);
     let number = set_number_of(links, clock, done, minutes, e.minute, e.set, last);
-    refusal(number, record_beside(links, done, w, e.point, number))
+    Refusal::new(number, record_beside(links, done, w, e.point, number))
 }
 
 // 21 to 30 in order for an event, or else 0, with the record beside it.
@@ -73,10 +72,10 @@ pub fn number_from(
     ensures { result ≡ with_record links done w event.now (number_by links clock done minutes w event.now) }
 {
     if done == first_points(links.points) {
-        return refusal(ALL_DONE, 0);
+        return Refusal::new(ALL_DONE, 0);
     }
     if stuck_from(links, done, w) {
-        return refusal(IS_STUCK, 0);
+        return Refusal::new(IS_STUCK, 0);
     }
     later_from(links, clock, done, minutes, w, event)
 }

@@ -2,4 +2,5 @@
 mod Bits
 mod Lists
 pub mod Laws
+pub mod Walks
 pub mod Shift

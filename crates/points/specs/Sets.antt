@@ -1,7 +1,8 @@
 -- Sets of points as numbers: the point p is in the set s where bit p of s is 1. The points are 0 up to 31, so a set is a number below 2 ^ 32.
 -- Definitions only: what holds of them is in `Laws`. Assumes nothing.
-use Rattle.std.specs.Prelude.{Bool, true, not, cond, ◌&&◌, List, [], ◌∷◌, ℕ, zero, suc, ◌+◌, ◌-◌, ◌/◌, ◌%◌, ◌^◌, min, eqb, ltb}
+use Rattle.std.specs.Prelude.{Bool, true, not, cond, ◌&&◌, List, [], ◌∷◌, ℕ, zero, suc, ◌+◌, ◌-◌, ◌/◌, ◌%◌, ◌^◌, ◌<◌, min, eqb, ltb, Option, IfSome}
 use Rattle.std.specs.Int.Count.{ones}
+use Rattle.std.specs.Iterator.{YieldsFirst}
 
 -- The point p is in s: bit p of s is 1.
 unfoldable pub member : ℕ → ℕ → Bool
@@ -36,6 +37,11 @@ passing test (p ∷ l) = cond (test p) (p ∷ passing test l) (passing test l)
 -- The members of s below 32, in rising order.
 unfoldable pub members_of : ℕ → List ℕ
 members_of s = passing (member s) (from 0 32)
+
+-- One step of a walk over points of which some are left: the first of them, a point, with the rest left, or none where none is left.
+pub record Steps (left : List ℕ) (found : Option ℕ) (rest : List ℕ) : Type 0 where
+  pub yields : YieldsFirst (λ l. l) left found rest
+  pub small : IfSome found (λ p. p < 32)
 
 -- The first of a list, or `other` where it is empty.
 unfoldable pub first_or : ℕ → List ℕ → ℕ

@@ -3,7 +3,10 @@
 #![tactic(auto)]
 
 ghost use Rattle.std.specs.Prelude.{◌≡◌};
-ghost use Rattle.points.specs.Sets.{member, with_of, without_of, count_of, first_of, below_of, subset_of};
+ghost use Rattle.std.specs.Iterator.{item_count};
+ghost use Rattle.points.specs.Sets.{member, with_of, without_of, count_of, first_of, below_of, members_of, subset_of, Steps};
+
+use std::marker::Model;
 
 // How many points there are: 0 up to 31. It is also what `first` replies of the empty set.
 pub const MOST: u8 = 32;
@@ -53,18 +56,48 @@ pub fn below(n: u8) -> u32
     if n < MOST { (1 << n) - 1 } else { ALL }
 }
 
-// Is every point of a in b? The walk takes the lowest point that is left of a, until none is.
+// The points of a set, from the lowest on, seen as the list of those that are left.
+#[derive(Drop)]
+pub struct Walk {
+    rest: u32,
+}
+
+impl Model for Walk {
+    ghost use Rattle.std.specs.Prelude.{ℕ, List};
+    ghost use Rattle.points.specs.Sets.{members_of};
+
+    ghost Value = { List ℕ };
+
+    ghost view = { λ w. members_of w.rest };
+}
+
+impl Iterator for Walk {
+    type Item = u8;
+
+    ghost next_gives = { Steps };
+
+    ghost remaining = { item_count (λ rest. rest) };
+
+    fn next(&mut self) -> Option<u8> {
+        if self.rest == 0 {
+            return None;
+        }
+        let p = first(self.rest);
+        self.rest = without(self.rest, p);
+        Some(p)
+    }
+}
+
+// The points of a set, one after the other, the lowest first.
+pub fn members(s: u32) -> Walk
+    ensures { result ≡ members_of s }
+{
+    Walk { rest: s }
+}
+
+// Is every point of a in b?
 pub fn subset(a: u32, b: u32) -> bool
     ensures { result ≡ subset_of a b }
 {
-    let mut rest = a;
-    while rest != 0 {
-        let p = first(rest);
-        if has(b, p) {
-            rest = without(rest, p);
-        } else {
-            return false;
-        }
-    }
-    true
+    members(a).all(|p| has(b, p))
 }

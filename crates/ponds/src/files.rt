@@ -5,6 +5,7 @@ ghost use Rattle.filed.specs.Files.{check_answer, test_file, worst_file, day_fil
 
 use filed::{check_file, day_file, test_file, worst_file};
 use halves::answer_with;
+use plan::ACCEPTED;
 use told::{tell_test, tell_worst};
 
 // A plan file's own refusal with its record, or 0 with how many records there are.
@@ -43,6 +44,8 @@ pub extern "C" fn ponds_day(file: &[u8], projection: u32, out: &mut [u8]) -> u64
     ensures reply { result ≡ day_answer (day_file file.now projection out.old) }
     ensures bytes { out.new ≡ day_left file.now projection out.old }
 {
-    let day = day_file(file, projection, out);
-    answer_with(day.number, day.place, day.events)
+    match day_file(file, projection, out) {
+        Ok(events) => answer_with(ACCEPTED, 0, events),
+        Err(refusal) => answer_with(refusal.number, refusal.place, 0),
+    }
 }

@@ -9,16 +9,14 @@ use lib.Dec.{eqb, ltb}
 use lib.ListN.{length, take, drop}
 use borrow.Author.Tests.{eq-eqb}
 use Rattle.records.proofs.Entries.{all_take, all_drop}
-use Rattle.std.specs.Prelude.{if◌then◌else◌}
+use Rattle.std.specs.Prelude.{Ok, Err, if◌then◌else◌}
 use Rattle.records.specs.declared.Record.{Record}
 use Rattle.plan.specs.Limits.{most_records, record_bytes}
 use Rattle.plan.specs.APlan.{plan_of}
 use Rattle.plan.specs.PlanFile.{Entry, entries_in}
 use Rattle.plan.specs.Held.{All, IsByte}
-use Rattle.plan.specs.ReplyNumbers.{read_of, read_with, check_of, check_with, first_bad, refusal, refused, taken}
+use Rattle.plan.specs.ReplyNumbers.{Reading, plan_in, read_of, check_of, check_with}
 use Rattle.plan.specs.declared.Plan.{Plan}
-use Rattle.plan.specs.declared.Reading.{Reading}
-use Rattle.plan.specs.declared.Refusal.{Refusal}
 use Rattle.board.specs.Boards.{fresh}
 use Rattle.board.specs.Events.{take_of}
 use Rattle.board.specs.Streams.{events_in, board_after_all}
@@ -91,44 +89,19 @@ module _ (p : Plan) (events : List ℕ) where
 
 -- ---- a refused plan has no yes
 
-first_none : (f : Refusal) (rs : List Record) → eqb (if eqb f.number 0 then taken rs else refused f).number 0 ≡ false
-    → (if eqb f.number 0 then taken rs else refused f).plan ≡ plan_of []
-first_none f rs e = go (eqb f.number 0) e
-  where
-    go : (t : Bool) → eqb (if t then taken rs else refused f).number 0 ≡ false → (if t then taken rs else refused f).plan ≡ plan_of []
-    go true e = clash e
-    go false e = refl
-
-refused_none : (s : List ℕ) → eqb (read_of s).number 0 ≡ false → (read_of s).plan ≡ plan_of []
-unfolding read_with
-refused_none s e =
-    go (eqb (length s) 0) (not (eqb (length s % record_bytes) 0)) (ltb most_records (length s / record_bytes)) (first_bad [] (entries_in (length s / record_bytes) s)) (map (λ (x : Entry). x.what) (entries_in (length s / record_bytes) s)) e
-  where
-    go : (x y z : Bool) (f : Refusal) (rs : List Record)
-        → eqb (if x then refused (refusal 1 0) else (if y then refused (refusal 2 0) else (if z then refused (refusal 3 0) else (if eqb f.number 0 then taken rs else refused f)))).number 0 ≡ false
-        → (if x then refused (refusal 1 0) else (if y then refused (refusal 2 0) else (if z then refused (refusal 3 0) else (if eqb f.number 0 then taken rs else refused f)))).plan ≡ plan_of []
-    go true y z f rs e = refl
-    go false true z f rs e = refl
-    go false false true f rs e = refl
-    go false false false f rs e = first_none f rs e
-
--- what reading answers, by its number
-read_yes : (s : List ℕ) (j : ℕ) → test_of (read_of s).plan ≡ answer.Yes j → eqb (read_of s).number 0 ≡ true
+-- what reading answers where the test says yes to its plan
+read_yes : (r : Reading) (j : ℕ) → test_of (plan_in r) ≡ answer.Yes j → r ≡ Ok (plan_in r)
 unfolding check_with
-read_yes s j y = go (eqb (read_of s).number 0) refl
-  where
-    go : (t : Bool) → eqb (read_of s).number 0 ≡ t → eqb (read_of s).number 0 ≡ true
-    go true e = e
-    go false e =
-        let none = refused_none s e in
-        let ok = yes_accepted (rw y at (computed (read_of s).plan)) in
-        absurd (omega (arith, (rw none at ok)))
+read_yes (Ok p) j y = refl
+read_yes (Err x) j y =
+    let ok : (check_of (plan_of [])).number ≡ 0 = yes_accepted (rw y at (computed (plan_of []))) in
+    absurd (omega (arith, ok))
 
 -- THE LAST LINE
 pub yes_ends_well : YesEndsWell
 yes_ends_well bytes j h y =
-    let p = (read_of (plan_part bytes)).plan in
-    let ok = read_yes (plan_part bytes) j y in
+    let p = plan_in (read_of (plan_part bytes)) in
+    let ok = read_yes (read_of (plan_part bytes)) j y in
     let t : Tested p (answer.Yes j) = rw y at (computed p) in
     let es = all_drop IsByte (record_bytes * suc (until_mark (whole_in bytes))) bytes h in
     (rw ok (ends_well p (event_part bytes) t es (event_lines p 0 fresh (whole_in (event_part bytes)))), rw ok (offers_end p (event_part bytes) t es))

@@ -1,7 +1,7 @@
 -- How the text ends that is printed of a plan to which the test says yes, whatever bytes come behind the plan. Assumes nothing.
 use Rattle.std.specs.Prelude.{◌≡◌, ◌⊎◌, List, [], ◌∷◌, ℕ}
 use Rattle.plan.specs.Held.{All, IsByte}
-use Rattle.plan.specs.ReplyNumbers.{read_of}
+use Rattle.plan.specs.ReplyNumbers.{plan_in, read_of}
 use Rattle.vee.specs.TestOf.{test_of}
 use Rattle.vee.specs.declared.Answer.TheVariants.{Yes}
 use Rattle.lines.specs.declared.Line.{Line}
@@ -22,5 +22,5 @@ EndsWell ls = (l : Line) → (last_or l ls ≡ end_with kept_word) ⊎ (last_or 
 -- never `end stuck` and never `end broken N`.
 abbrev pub YesEndsWell : Type 0
 YesEndsWell =
-    (bytes : List ℕ) (j : ℕ) → All IsByte bytes → test_of (read_of (plan_part bytes)).plan ≡ Yes j
+    (bytes : List ℕ) (j : ℕ) → All IsByte bytes → test_of (plan_in (read_of (plan_part bytes))) ≡ Yes j
     → EndsWell (sheet_lines bytes) × EndsWell (offers_lines bytes)

@@ -1,13 +1,12 @@
 -- Document 01, "The printing program", whole: `sheet_text`, from all bytes of the input to all bytes of the output; and `offers_text`, the same
 -- for the program that prints every reply. Each line is a definition of `text`; what an event does is `take_of`, what a board is `reply_of`.
 -- Assumes nothing.
-use Rattle.std.specs.Prelude.{Bool, not, List, [], ◌∷◌, ◌++◌, map, ℕ, suc, ◌*◌, ◌/◌, ◌%◌, eqb, ltb, length, take, drop, get_or, if◌then◌else◌}
+use Rattle.std.specs.Prelude.{Bool, not, List, [], ◌∷◌, ◌++◌, map, ℕ, suc, ◌*◌, ◌/◌, ◌%◌, eqb, ltb, length, take, drop, get_or, Ok, Err, if◌then◌else◌}
 use Rattle.points.specs.Sets.{from}
 use Rattle.plan.specs.Limits.{record_bytes}
 use Rattle.plan.specs.APlan.{points, blank, records_of}
-use Rattle.plan.specs.ReplyNumbers.{read_of}
+use Rattle.plan.specs.ReplyNumbers.{Reading, read_of}
 use Rattle.plan.specs.declared.Plan.{Plan}
-use Rattle.plan.specs.declared.Reading.{Reading}
 use Rattle.board.specs.Boards.{fresh}
 use Rattle.board.specs.Events.{take_of}
 use Rattle.board.specs.Streams.{events_in, board_after_all}
@@ -69,7 +68,8 @@ sheet_of p events = event_lines p 0 fresh (whole_in events) ++ end_lines p event
 
 -- a refused plan prints only plan NUMBER RECORD; `lines` are those of a plan that is read
 abbrev pub read_lines : (Plan → List ℕ → List Line) → Reading → List ℕ → List Line
-read_lines lines r events = if eqb r.number 0 then lines r.plan events else (plan_line r.number r.place ∷ [])
+read_lines lines (Ok p) events = lines p events
+read_lines lines (Err x) events = plan_line x.number x.place ∷ []
 
 abbrev pub lines_for : (Plan → List ℕ → List Line) → List ℕ → List Line
 lines_for lines bytes = read_lines lines (read_of (plan_part bytes)) (event_part bytes)

@@ -35,8 +35,7 @@ pub fn print(input: Stdin, output: Stdout, full: bool) {
     let mut kept = [0u32; KEPT];
     let mut stage = machine::begin();
     let mut at: usize = 0;
-    let mut turns = u64::MAX;
-    while turns > 0 {
+    for _ in 0..u64::MAX {
         let n = read_on(input, &mut chunk, at);
         let over = (n == at) & (n < RECORD_BYTES);
         stage = turn(
@@ -56,6 +55,5 @@ pub fn print(input: Stdin, output: Stdout, full: bool) {
             break;
         }
         at = carry(&mut chunk, stage.used, n);
-        turns -= 1;
     }
 }

@@ -1,11 +1,11 @@
 // The calls: each is made so many times with another pond code in the plan's first record, for the benchmark, and then once
 // as the desk stands, which is answered. The number in front of an answer's first line is the request's own.
-use crate::block::Block;
+use crate::block::{Asked, Block};
 use crate::desk::{Desk, set_byte};
 use crate::many;
 use crate::says::{mixed, say, say_board, say_places, sum_of, sum_of_plan, within};
 use board::{Board, Taken};
-use plan::Plan;
+use plan::{Plan, plan_in};
 use replies::Outcome;
 use std::io::Stdout;
 use vee::Answer;
@@ -134,8 +134,7 @@ fn reads(bytes: &mut [u8], times: u32) -> u32 {
     let mut sum: u32 = 0;
     for k in 0..times {
         set_byte(bytes, 12, (k % 256) as u8);
-        let reading = plan_file::read(bytes);
-        let plan = reading.plan;
+        let plan = plan_in(plan_file::read(bytes));
         sum = mixed(sum, plan.count);
     }
     sum
@@ -144,33 +143,36 @@ fn reads(bytes: &mut [u8], times: u32) -> u32 {
 fn say_read(out: Stdout, bytes: &mut [u8], times: u32) {
     let sum = reads(bytes, times);
     let reading = plan_file::read(bytes);
-    let plan = reading.plan;
-    say(out, READ, reading.number, reading.place, sum);
+    match reading {
+        Ok(_) => say(out, READ, 0, 0, sum),
+        Err(refusal) => say(out, READ, refusal.number, refusal.place, sum),
+    }
+    let plan = plan_in(reading);
     say(out, READ, plan.count, sum_of_plan(plan), 0);
 }
 
 // A call by its number; any other number is answered with itself.
 pub fn called(out: Stdout, desk: Desk, block: Block, buffer: &mut [u8]) -> Desk {
-    let asked = block.asked;
     let plan = desk.plan;
     let board = desk.board;
     let times = desk.times;
     let n = within(desk.length, buffer);
-    match asked {
-        16 => say_reply(out, plan, board, replies(plan, board, times)),
-        17 => {
+    match block.asked {
+        Asked::Reply => say_reply(out, plan, board, replies(plan, board, times)),
+        Asked::Take => {
             return take(out, desk, &buffer[..n]);
         }
-        18 => say_verdict(out, plan, board, verdicts(plan, board, times)),
-        19 => say_check(out, plan),
-        20 => say_write(out, plan, &mut buffer[..n]),
-        21 => say_test(out, plan),
-        22 => say_read(out, &mut buffer[..n], times),
-        23 => many::judge(out, plan, board, &buffer[..n]),
-        24 => {
+        Asked::Verdict => say_verdict(out, plan, board, verdicts(plan, board, times)),
+        Asked::Check => say_check(out, plan),
+        Asked::Write => say_write(out, plan, &mut buffer[..n]),
+        Asked::Test => say_test(out, plan),
+        Asked::Read => say_read(out, &mut buffer[..n], times),
+        Asked::Judge => many::judge(out, plan, board, &buffer[..n]),
+        Asked::Stream => {
             return many::stream(out, desk, &buffer[..n], block.first, block.second);
         }
-        0..=15 | 25..=255 => say(out, asked as u32, 0, 0, 0),
+        Asked::Other(byte) => say(out, byte as u32, 0, 0, 0),
+        _ => {}
     }
     desk
 }

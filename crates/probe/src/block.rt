@@ -5,12 +5,59 @@ ghost use Rattle.std.specs.Prelude.{◌≡◌, ◌≤◌};
 use handles::read_full;
 use std::io::Stdin;
 
-// No further request.
-pub const OVER: u8 = 0;
+// What is asked: that there is no further request, that something be put on the desk, or a call; any other number is answered with itself.
+#[derive(Clone, Copy, PartialEq, Eq)]
+pub enum Asked {
+    Over,
+    Count,
+    Record,
+    Clock,
+    Minute,
+    Fill,
+    Put,
+    Repeat,
+    Number,
+    Reply,
+    Take,
+    Verdict,
+    Check,
+    Write,
+    Test,
+    Read,
+    Judge,
+    Stream,
+    Other(u8),
+}
+
+impl From<u8> for Asked {
+    fn from(byte: u8) -> Asked {
+        match byte {
+            0 => Asked::Over,
+            1 => Asked::Count,
+            2 => Asked::Record,
+            3 => Asked::Clock,
+            4 => Asked::Minute,
+            5 => Asked::Fill,
+            6 => Asked::Put,
+            7 => Asked::Repeat,
+            8 => Asked::Number,
+            16 => Asked::Reply,
+            17 => Asked::Take,
+            18 => Asked::Verdict,
+            19 => Asked::Check,
+            20 => Asked::Write,
+            21 => Asked::Test,
+            22 => Asked::Read,
+            23 => Asked::Judge,
+            24 => Asked::Stream,
+            9..=15 | 25..=255 => Asked::Other(byte),
+        }
+    }
+}
 
 #[derive(Clone, Copy)]
 pub struct Block {
-    pub asked: u8,
+    pub asked: Asked,
     pub p: u8,
     pub q: u8,
     pub r: u8,
@@ -30,9 +77,13 @@ pub fn word(a: u8, b: u8, c: u8, d: u8) -> u32 {
 }
 
 fn block_of(bytes: &[u8; 16], whole: bool) -> Block {
-    let asked = if whole { bytes[0] } else { OVER };
+    let asked = if whole {
+        Asked::from(bytes[0])
+    } else {
+        Asked::Over
+    };
     Block {
-        asked: asked,
+        asked,
         p: bytes[1],
         q: bytes[2],
         r: bytes[3],
@@ -42,7 +93,7 @@ fn block_of(bytes: &[u8; 16], whole: bool) -> Block {
     }
 }
 
-// The next request; `OVER` once the input has ended.
+// The next request; that there is none once the input has ended.
 pub fn next_block(input: Stdin) -> Block {
     let mut bytes = [0u8; 16];
     let n = read_full(input, &mut bytes);

@@ -1,11 +1,10 @@
 // What the requests have put on the desk so far: a plan, a board, how much of the lent buffer counts, and how often a call
 // is made.
 use crate::answered;
-use crate::block::{Block, signed};
+use crate::block::{Asked, Block, signed};
 use board::{Board, ROOM};
-use plan::{MOST_RECORDS, Plan, Record};
+use plan::{MOST_RECORDS, Plan, Record, empty};
 use std::io::Stdout;
-use std::num::wrapping_add_u32;
 
 #[derive(Clone, Copy)]
 pub struct Desk {
@@ -34,20 +33,13 @@ fn set_word(buffer: &mut [u8], at: u32, x: u32) {
     set_byte(buffer, from + 3, (x / 256 / 256 / 256 % 256) as u8);
 }
 
-fn fill(buffer: &mut [u8], b: u8) {
-    for i in 0..buffer.len() {
-        buffer[i] = b;
-    }
-}
-
 impl Desk {
     pub fn new() -> Desk {
-        let reading = plan_file::read(b"");
-        let plan = reading.plan;
+        let plan = empty(0);
         let board = board::fresh();
         Desk {
-            plan: plan,
-            board: board,
+            plan,
+            board,
             next: 0,
             length: 0,
             times: 0,
@@ -76,7 +68,7 @@ impl Desk {
         };
         let mut desk = self;
         desk.plan = plan;
-        desk.next = wrapping_add_u32(self.next, 1);
+        desk.next = self.next.wrapping_add(1);
         desk
     }
 
@@ -110,7 +102,7 @@ impl Desk {
 
     // The buffer's length, and all its bytes.
     fn filled(self, block: Block, buffer: &mut [u8]) -> Desk {
-        fill(buffer, block.p);
+        buffer.fill(block.p);
         let mut desk = self;
         desk.length = block.first as usize;
         desk
@@ -119,7 +111,7 @@ impl Desk {
     // Eight bytes of the buffer.
     fn put(self, block: Block, buffer: &mut [u8]) -> Desk {
         set_word(buffer, block.first, block.second);
-        set_word(buffer, wrapping_add_u32(block.first, 4), block.third);
+        set_word(buffer, block.first.wrapping_add(4), block.third);
         self
     }
 
@@ -131,17 +123,16 @@ impl Desk {
 
     // A request that puts something on the desk, or else a call.
     pub fn next(self, out: Stdout, block: Block, buffer: &mut [u8]) -> Desk {
-        let asked = block.asked;
-        match asked {
-            1 => self.counted(block),
-            2 => self.recorded(block),
-            3 => self.clocked(block),
-            4 => self.timed(block),
-            5 => self.filled(block, buffer),
-            6 => self.put(block, buffer),
-            7 => self.repeated(block),
-            8 => self.numbered(block),
-            0 | 9..=255 => answered::called(out, self, block, buffer),
+        match block.asked {
+            Asked::Count => self.counted(block),
+            Asked::Record => self.recorded(block),
+            Asked::Clock => self.clocked(block),
+            Asked::Minute => self.timed(block),
+            Asked::Fill => self.filled(block, buffer),
+            Asked::Put => self.put(block, buffer),
+            Asked::Repeat => self.repeated(block),
+            Asked::Number => self.numbered(block),
+            _ => answered::called(out, self, block, buffer),
         }
     }
 }

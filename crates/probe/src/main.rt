@@ -10,20 +10,18 @@ mod desk;
 mod many;
 mod says;
 
-use block::{OVER, next_block};
+use block::{Asked, next_block};
 use desk::Desk;
 
 fn main(rt: HostRuntime) {
     let mut room = io::large_buffer();
     let buffer: &mut [u8] = &mut room;
     let mut desk = Desk::new();
-    let mut turns = u64::MAX;
-    while turns > 0 {
+    for _ in 0..u64::MAX {
         let block = next_block(rt.stdin());
-        if block.asked == OVER {
+        if block.asked == Asked::Over {
             break;
         }
         desk = desk.next(rt.stdout(), block, buffer);
-        turns -= 1;
     }
 }

@@ -82,8 +82,8 @@ fn numbers_in(n: u32, room: &[u32]) -> usize
 
 fn sum_of_room(room: &[u32]) -> u32 {
     let mut sum: u32 = 0;
-    for i in 0..room.len() {
-        sum = mixed(sum, room[i]);
+    for &x in room {
+        sum = mixed(sum, x);
     }
     sum
 }

@@ -18,9 +18,7 @@ pub fn within(n: usize, bytes: &[u8]) -> usize
 // A line of four numbers.
 pub fn say(out: Stdout, a: u32, b: u32, c: u32, d: u32) {
     let line = text::numbers_line(a as u64, b, c, d);
-    let bytes = line.bytes;
-    let n = within(line.len, &bytes);
-    write_all(out, &bytes[..n]);
+    write_all(out, line.text());
 }
 
 const PRIME: u32 = 16777213;
@@ -34,8 +32,8 @@ pub fn mixed(sum: u32, x: u32) -> u32 {
 // The sum over a buffer's bytes.
 pub fn sum_of(bytes: &[u8]) -> u32 {
     let mut sum: u32 = 0;
-    for i in 0..bytes.len() {
-        sum = mixed(sum, wide(bytes[i]));
+    for &b in bytes {
+        sum = mixed(sum, wide(b));
     }
     sum
 }
@@ -51,8 +49,7 @@ fn with_record(sum: u32, r: Record) -> u32 {
 // The sum over all records of a plan, those past its count too.
 pub fn sum_of_plan(plan: Plan) -> u32 {
     let mut sum = plan.count;
-    for i in 0..MOST_RECORDS {
-        let r = plan.records[i];
+    for r in plan.records {
         sum = with_record(sum, r);
     }
     sum

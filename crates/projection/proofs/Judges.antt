@@ -13,7 +13,7 @@ use Rattle.network.specs.Passing.{Cycle, Consistent, Fine, Bad, Good}
 use Rattle.network.proofs.Laws.{over}
 use Rattle.tables.specs.declared.table.Part.{Part}
 use Rattle.tables.specs.declared.table.Part.TheVariants.{All, Rising}
-use Rattle.pairs.specs.declared.Pair.TheVariants.{None, At}
+use Rattle.std.specs.Prelude.{None, Some}
 use Rattle.tables.specs.Tables.{Table}
 use Rattle.tables.specs.Entries.{at, Shallow}
 use Rattle.tables.specs.Distances.{Inside, Distances}
@@ -54,7 +54,7 @@ module _ (E : ℕ → ℕ → ℕ → ℕ → Type 0) (n : ℕ) (in_plan : Insid
   pub good_by : FirstPair n Ok Trouble None → Good E
   good_by (no_pair h) = record { consistent = consistent; dispatchable = record { best = λ X Y. is_fine X Y (h X Y) } }
 
-  pub pair_by : {X Y : ℕ} → FirstPair n Ok Trouble (At X Y) → FirstBad E X Y
+  pub pair_by : {X Y : ℕ} → FirstPair n Ok Trouble (Some (X, Y)) → FirstBad E X Y
   pair_by {X} {Y} (pair hx hy before row here) = record { consistent = consistent; bad = trouble X Y hx hy here; before = earlier }
     where
       earlier : (X' Y' : ℕ) → Before X' Y' X Y → Fine E X' Y'
@@ -122,5 +122,5 @@ module _ (s w : List ℕ) (m n : ℕ) (ready : SheetReady s w m n) (f : List ℕ
     pub judged_good : FirstPair n (Kept (at f) (at v)) (Undercut (at f) (at v)) None → Good (SheetEdge s w m)
     judged_good = good_by (SheetEdge s w m) n (inside ready (omega arith)) (all_consistent (part_distances a ha fa).1) (Kept (at f) (at v)) (Undercut (at f) (at v)) fines bads
 
-    pub judged_pair : {X Y : ℕ} → FirstPair n (Kept (at f) (at v)) (Undercut (at f) (at v)) (At X Y) → FirstBad (SheetEdge s w m) X Y
+    pub judged_pair : {X Y : ℕ} → FirstPair n (Kept (at f) (at v)) (Undercut (at f) (at v)) (Some (X, Y)) → FirstBad (SheetEdge s w m) X Y
     judged_pair = pair_by (SheetEdge s w m) n (inside ready (omega arith)) (all_consistent (part_distances a ha fa).1) (Kept (at f) (at v)) (Undercut (at f) (at v)) fines bads

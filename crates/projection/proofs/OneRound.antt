@@ -3,7 +3,7 @@
 -- nothing.
 use mathlib.Core.Path.{◌≡◌, refl, ap, ◌∙◌}
 use mathlib.Core.Logic.{◌⊎◌, inl, inr, ⊎_elim}
-use mathlib.Core.Bool.{Bool, true, false, not}
+use mathlib.Core.Bool.{Bool, true, false, true≢false, not}
 use mathlib.Core.List.{List}
 use Prim.Native.Nat.{ℕ, zero, suc, ◌+◌, ◌*◌, ◌<◌, ◌≤◌}
 use native.Mathlib.Omega.{arith}
@@ -20,7 +20,7 @@ use Rattle.rows.specs.Filled.{Filled}
 use Rattle.rows.specs.declared.sheet.Row.{Row}
 use Rattle.rows.proofs.Lays.{inside}
 use Rattle.rounds.specs.declared.Fall.{Fall}
-use Rattle.pairs.specs.declared.Pair.TheVariants.{None}
+use Rattle.std.specs.Prelude.{Option, None, Some, is_some}
 use Rattle.projection.specs.Findings.{JudgeReady}
 use Rattle.pairs.specs.Pairs.{Kept, Undercut, FirstPair, no_pair}
 use Rattle.rounds.specs.Ways.{fall_of, Capped, DroppedRow, RowLowered, LowerReady}
@@ -156,3 +156,9 @@ pub shown_good : (s w : List ℕ) (m n : ℕ) (a r v : List ℕ) → JudgeReady 
 shown_good s w m n a r v j b hb fb d (no_pair kept) =
     let f = part_distances true refl j.filled in
     once_good (SheetEdge s w m) n (inside j.ready (omega arith)) (at a) (at r) (at v) (all_edges f.0) (rising_edges (part_distances b hb fb).0) d.from kept (all_consistent f.1)
+
+-- so does the code's own test
+pub shown_by : (s w : List ℕ) (m n : ℕ) (a r v : List ℕ) → JudgeReady s w m n a → (b : Bool) → not b ≡ false → Filled Rising s w m n r b → OnceDone s w m n a r v
+    → (x : Option (ℕ × ℕ)) → FirstPair n (Kept (at a) (at v)) (Undercut (at a) (at v)) x → (z : Bool) → is_some x ≡ not z → z ≡ true → Good (SheetEdge s w m)
+shown_by s w m n a r v j b hb fb d None f z k e = shown_good s w m n a r v j b hb fb d f
+shown_by s w m n a r v j b hb fb d (Some p) f z k e = absurd (true≢false (k ∙ ap not e))

@@ -8,7 +8,7 @@ ghost use Rattle.rows.specs.Sheet.{SheetEdge, SheetReady};
 ghost use Rattle.projection.specs.Findings.{FoundOf, JudgeReady};
 
 use once::is_good;
-use pairs::{Pair, first_pair};
+use pairs::first_pair;
 use rounds::settle;
 use rows::{SHEET, fill};
 use tables::{Part, ROOM, SIDE};
@@ -40,8 +40,8 @@ fn judge_ways(
     }
     settle(&mut *ways, sheet, durations, n, m);
     match first_pair(all, &*ways, n) {
-        Pair::None => Finding::Good,
-        Pair::At(x, y) => Finding::Pair(x, y),
+        None => Finding::Good,
+        Some((x, y)) => Finding::Pair(x, y),
     }
 }
 

@@ -9,9 +9,9 @@ ghost use Rattle.projection.specs.Findings.{JudgeReady};
 ghost use Rattle.projection.specs.Once.{FellBy, OnceReady, OnceDone};
 ghost use Rattle.rounds.specs.Ways.{Capped, LowerReady};
 
-use pairs::{Pair, first_pair};
+use pairs::first_pair;
 use rounds::{fall_of, less, lower_by};
-use rows::{SHEET, fill, index, row_at};
+use rows::{SHEET, fill, row_at};
 use tables::{BIAS, Part, ROOM, SIDE};
 
 // No walk from `x` to `z` is shorter than an edge that is `drop` below zero. Any other edge begins no shortest walk.
@@ -46,15 +46,15 @@ fn ease_by(
     ensures { OnceDone sheet.now durations.now m n all.now t.old t.new }
 {
     let row = row_at(sheet, q);
-    let p = durations[index(row.over)];
+    let p = durations[row.over as usize];
     let fall = fall_of(row, p);
     if 0 < fall.drop {
         fall_by(
             all,
             &mut *t,
             n,
-            index(fall.from),
-            index(fall.to),
+            fall.from as usize,
+            fall.to as usize,
             fall.drop as u32,
         );
     }
@@ -93,8 +93,5 @@ pub(crate) fn is_good(
         return false;
     }
     once(all, &mut *ways, sheet, durations, n, m);
-    match first_pair(all, &*ways, n) {
-        Pair::None => true,
-        Pair::At(_, _) => false,
-    }
+    first_pair(all, &*ways, n).is_none()
 }

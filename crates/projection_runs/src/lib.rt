@@ -71,6 +71,7 @@ pub fn run(
     let mut kept = begun;
     let mut minute: u32 = 0;
     let mut k: usize = 0;
+    // It goes on until all points are done: no index is counted.
     while kept[DONE] != all {
         let e = next_event(&kept, starts, n, durations);
         minute = e.minute;
@@ -79,7 +80,7 @@ pub fn run(
         k += 1;
     }
     Ran {
-        minute: minute,
+        minute,
         events: k as u32,
     }
 }

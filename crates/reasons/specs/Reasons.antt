@@ -1,7 +1,7 @@
 -- The lines of `desk explain` behind that of the test: `drive A C MINUTES` for each link, for a pair `shortest LENGTH` and `allowed LENGTH` or
 -- `allowed none`, `step RECORD FROM TO LENGTH` for each step, and `sum LENGTH`. A word is the codes of its letters to the base 256, the
 -- first letter lowest. Assumes nothing.
-use Rattle.std.specs.Prelude.{not, [], ◌∷◌, ℕ, ltb, if◌then◌else◌}
+use Rattle.std.specs.Prelude.{[], ◌∷◌, ℕ, ltb, if◌then◌else◌, Option, None, Some}
 use Rattle.lines.specs.Text.{said}
 use Rattle.lines.specs.declared.Line.{Line}
 use Rattle.lines.specs.declared.Piece.{Piece}
@@ -30,11 +30,13 @@ abbrev pub sum_word : ℕ
 sum_word = 0x6d7573
 
 -- a length, with a minus sign below zero; `none` where there is no walk
-abbrev pub length_piece : Length → Piece
-length_piece l =
-    if not l.there then Name none_word
-    else (if ltb 0 l.down then Below l.down
-    else Number l.up)
+abbrev pub length_piece : Option Length → Piece
+length_piece None = Name none_word
+length_piece (Some l) = if ltb 0 l.down then Below l.down else Number l.up
+
+-- a word and a length
+abbrev pub length_line : ℕ → Option Length → Line
+length_line word l = said (Name word) (length_piece l ∷ [])
 
 -- drive A C MINUTES
 abbrev pub drive_line : Drive → Line
@@ -42,14 +44,14 @@ drive_line d = said (Name drive_word) (Number d.from ∷ Number d.to ∷ Number 
 
 -- step RECORD FROM TO LENGTH
 abbrev pub step_line : Step → Line
-step_line e = said (Name step_word) (Number e.row ∷ Number e.from ∷ Number e.to ∷ length_piece (length_of e.up e.down) ∷ [])
+step_line e = said (Name step_word) (Number e.row ∷ Number e.from ∷ Number e.to ∷ length_piece (Some (length_of e.up e.down)) ∷ [])
 
 -- shortest LENGTH, allowed LENGTH, sum LENGTH
-abbrev pub shortest_line : Length → Line
-shortest_line l = said (Name shortest_word) (length_piece l ∷ [])
+abbrev pub shortest_line : Option Length → Line
+shortest_line = length_line shortest_word
 
-abbrev pub allowed_line : Length → Line
-allowed_line l = said (Name allowed_word) (length_piece l ∷ [])
+abbrev pub allowed_line : Option Length → Line
+allowed_line = length_line allowed_word
 
-abbrev pub sum_line : Length → Line
-sum_line l = said (Name sum_word) (length_piece l ∷ [])
+abbrev pub sum_line : Option Length → Line
+sum_line = length_line sum_word

@@ -3,7 +3,7 @@
 #![tactic(auto)]
 
 ghost use Rattle.std.specs.Prelude.{◌≡◌};
-ghost use Rattle.reasons.specs.Reasons.{length_piece, drive_line, shortest_line, allowed_line, step_line, sum_line};
+ghost use Rattle.reasons.specs.Reasons.{length_piece, length_line, drive_line, shortest_line, allowed_line, step_line, sum_line};
 
 use explained::Drive;
 use lengths::{Length, length_of};
@@ -24,16 +24,23 @@ const STEP: u64 = 0x70657473;
 const SUM: u64 = 0x6d7573;
 
 // A length, with a minus sign below zero; `none` where there is no walk.
-fn piece_of(length: Length) -> Piece
+fn piece_of(length: Option<Length>) -> Piece
     ensures { result ≡ length_piece length }
 {
-    if !length.there {
+    let Some(length) = length else {
         return Piece::Name(NONE);
-    }
+    };
     if 0 < length.down {
         return Piece::Below(length.down);
     }
     Piece::Number(length.up)
+}
+
+// A word and a length.
+fn length_line(word: u64, length: Option<Length>) -> Line
+    ensures { result ≡ length_line word length }
+{
+    line_of(Piece::Name(word), &[piece_of(length)])
 }
 
 // `drive A C MINUTES`.
@@ -42,13 +49,11 @@ pub fn drive_line(drive: Drive) -> Line
 {
     line_of(
         Piece::Name(DRIVE),
-        [
+        &[
             Piece::Number(drive.from),
             Piece::Number(drive.to),
             Piece::Number(drive.minutes),
-            Piece::Name(0),
         ],
-        3,
     )
 }
 
@@ -56,51 +61,35 @@ pub fn drive_line(drive: Drive) -> Line
 pub fn step_line(step: Step) -> Line
     ensures { result ≡ step_line step }
 {
-    let length = piece_of(length_of(step.up, step.down));
+    let length = piece_of(Some(length_of(step.up, step.down)));
     line_of(
         Piece::Name(STEP),
-        [
+        &[
             Piece::Number(step.row as u64),
             Piece::Number(step.from as u64),
             Piece::Number(step.to as u64),
             length,
         ],
-        4,
     )
 }
 
 // `shortest LENGTH`.
-pub fn shortest_line(length: Length) -> Line
+pub fn shortest_line(length: Option<Length>) -> Line
     ensures { result ≡ shortest_line length }
 {
-    let piece = piece_of(length);
-    line_of(
-        Piece::Name(SHORTEST),
-        [piece, Piece::Name(0), Piece::Name(0), Piece::Name(0)],
-        1,
-    )
+    length_line(SHORTEST, length)
 }
 
 // `allowed LENGTH`, or `allowed none`.
-pub fn allowed_line(length: Length) -> Line
+pub fn allowed_line(length: Option<Length>) -> Line
     ensures { result ≡ allowed_line length }
 {
-    let piece = piece_of(length);
-    line_of(
-        Piece::Name(ALLOWED),
-        [piece, Piece::Name(0), Piece::Name(0), Piece::Name(0)],
-        1,
-    )
+    length_line(ALLOWED, length)
 }
 
 // `sum LENGTH`.
-pub fn sum_line(length: Length) -> Line
+pub fn sum_line(length: Option<Length>) -> Line
     ensures { result ≡ sum_line length }
 {
-    let piece = piece_of(length);
-    line_of(
-        Piece::Name(SUM),
-        [piece, Piece::Name(0), Piece::Name(0), Piece::Name(0)],
-        1,
-    )
+    length_line(SUM, length)
 }

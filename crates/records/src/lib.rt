@@ -36,6 +36,7 @@ pub const ORDINARY: u8 = 3;
 pub const WAIT: u8 = 4;
 
 // A record of a plan file, of any of the four kinds: byte 0, bytes 1 and 2, the two numbers, the pond code.
+// A record of any bytes has a kind, which the rules match as a number: so no enum.
 #[derive(Clone, Copy)]
 pub struct Record {
     pub kind: u8,
@@ -72,26 +73,11 @@ pub fn record_in(bytes: &[u8]) -> Record
 pub fn bytes_of(r: Record) -> [u8; RECORD_BYTES]
     ensures { result ≡ bytes_of r }
 {
-    let f = bits(r.first);
-    let s = bits(r.second);
-    let c = r.code;
+    let [f0, f1, f2, f3] = bits(r.first).to_le_bytes();
+    let [s0, s1, s2, s3] = bits(r.second).to_le_bytes();
+    let [c0, c1, c2, c3] = r.code.to_le_bytes();
     [
-        r.kind,
-        r.a,
-        r.b,
-        0,
-        (f % 256) as u8,
-        (f / 256 % 256) as u8,
-        (f / 256 / 256 % 256) as u8,
-        (f / 256 / 256 / 256 % 256) as u8,
-        (s % 256) as u8,
-        (s / 256 % 256) as u8,
-        (s / 256 / 256 % 256) as u8,
-        (s / 256 / 256 / 256 % 256) as u8,
-        (c % 256) as u8,
-        (c / 256 % 256) as u8,
-        (c / 256 / 256 % 256) as u8,
-        (c / 256 / 256 / 256 % 256) as u8,
+        r.kind, r.a, r.b, 0, f0, f1, f2, f3, s0, s1, s2, s3, c0, c1, c2, c3,
     ]
 }
 
@@ -133,10 +119,8 @@ pub fn put_records(records: [Record; MOST_RECORDS], count: usize, out: &mut [u8]
     requires { (count ≤ most_records) × (record_bytes * count ≤ length out.old) }
     ensures { out.new ≡ all_bytes (take count records) ++ drop (record_bytes * count) out.old }
 {
-    let mut i: usize = 0;
-    while i < count {
+    for i in 0..count {
         let r = records[i];
         put(out, RECORD_BYTES * i, bytes_of(r));
-        i += 1;
     }
 }

@@ -1,7 +1,7 @@
 -- Document 01, "Board, windows, replies", the reply: the first outcome that fits, for an offer the latest, and a list of the
 -- points. By document 02, §6, the list is there also when waiting or stuck, and names for each shut point the first record in
 -- file order that keeps it shut. Assumes nothing.
-use Rattle.std.specs.Prelude.{Bool, not, List, map, ℕ, eqb, ltb, replicate, if◌then◌else◌}
+use Rattle.std.specs.Prelude.{not, List, map, ℕ, eqb, ltb, replicate, if◌then◌else◌}
 use Rattle.points.specs.Sets.{from}
 use Rattle.plan.specs.Limits.{most_points}
 use Rattle.plan.specs.APlan.{watched, records_of}

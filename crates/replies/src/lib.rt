@@ -54,6 +54,7 @@ pub struct Reply {
 }
 
 // A point's state. Where nothing is offered, an open point is held.
+#[tactic(auto, unfolding(crate::specs::Inside::state_from))]
 fn state_of(
     done: bool,
     minute: u32,
@@ -90,9 +91,9 @@ pub fn nothing_more(outcome: Outcome) -> Reply
     };
     let places = [shut; ROOM];
     Reply {
-        outcome: outcome,
+        outcome,
         latest: 0,
-        places: places,
+        places,
     }
 }
 
@@ -116,8 +117,7 @@ pub fn list(
         state: State::Shut(0),
     };
     let mut places = [shut; ROOM];
-    let mut p: u8 = 0;
-    while p < MOST {
+    for p in 0..MOST {
         let at = p as usize;
         let state = state_of(
             has(done, p),
@@ -129,13 +129,12 @@ pub fn list(
             latest,
             lows[at],
         );
-        places[at] = Place { state: state };
-        p += 1;
+        places[at] = Place { state };
     }
     Reply {
-        outcome: outcome,
-        latest: latest,
-        places: places,
+        outcome,
+        latest,
+        places,
     }
 }
 

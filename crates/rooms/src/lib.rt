@@ -21,6 +21,7 @@ use plan::{ACCEPTED, ORDINARY, Plan, WAIT, check};
 use rows::{SHEET, lay_out};
 
 // The plan's own refusal, or number 0; and the plan's links.
+// The links are handed out of a refused plan too: so no Result.
 #[derive(Clone, Copy)]
 pub struct Started {
     pub number: u32,
@@ -105,6 +106,6 @@ pub fn begin(
     Started {
         number: found.number,
         place: found.place,
-        links: links,
+        links,
     }
 }

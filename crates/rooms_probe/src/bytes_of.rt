@@ -53,63 +53,36 @@ const HALVES_BYTES: usize = 2 * LIST;
 
 const ROWS_BYTES: usize = 4 * SHEET;
 
-fn links_bytes(room: &[u32; LINKS]) -> [u8; LINKS_BYTES] {
-    let mut bytes = [0u8; LINKS_BYTES];
-    for k in 0..LINKS_BYTES {
-        bytes[k] = byte_of(room[k / 4], (k % 4) as u32);
+// The bytes of a room's numbers; past them all is 0.
+fn bytes_of<const N: usize>(room: &[u32]) -> [u8; N] {
+    let mut bytes = [0u8; N];
+    for k in 0..N {
+        let x = room.get(k / 4).copied().unwrap_or(0);
+        bytes[k] = byte_of(x, (k % 4) as u32);
     }
     bytes
-}
-
-fn kept_bytes(room: &[u32; KEPT]) -> [u8; KEPT_BYTES] {
-    let mut bytes = [0u8; KEPT_BYTES];
-    for k in 0..KEPT_BYTES {
-        bytes[k] = byte_of(room[k / 4], (k % 4) as u32);
-    }
-    bytes
-}
-
-fn list_bytes(room: &[u32; REPLY]) -> [u8; LIST_BYTES] {
-    let mut bytes = [0u8; LIST_BYTES];
-    for k in 0..LIST_BYTES {
-        bytes[k] = byte_of(room[k / 4], (k % 4) as u32);
-    }
-    bytes
-}
-
-// One byte of two.
-fn half_byte(x: u16, k: u32) -> u8 {
-    byte_of(x as u32, k)
 }
 
 fn halves_bytes(room: &[u16; LIST]) -> [u8; HALVES_BYTES] {
     let mut bytes = [0u8; HALVES_BYTES];
     for k in 0..HALVES_BYTES {
-        bytes[k] = half_byte(room[k / 2], (k % 2) as u32);
-    }
-    bytes
-}
-
-fn rows_bytes(room: &[u32; SHEET]) -> [u8; ROWS_BYTES] {
-    let mut bytes = [0u8; ROWS_BYTES];
-    for k in 0..ROWS_BYTES {
-        bytes[k] = byte_of(room[k / 4], (k % 4) as u32);
+        bytes[k] = byte_of(room[k / 2] as u32, (k % 2) as u32);
     }
     bytes
 }
 
 pub fn say_links(out: Stdout, room: &[u32; LINKS]) {
-    let bytes = links_bytes(room);
+    let bytes = bytes_of::<LINKS_BYTES>(room);
     write_all(out, &bytes);
 }
 
 pub fn say_kept(out: Stdout, room: &[u32; KEPT]) {
-    let bytes = kept_bytes(room);
+    let bytes = bytes_of::<KEPT_BYTES>(room);
     write_all(out, &bytes);
 }
 
 pub fn say_list(out: Stdout, room: &[u32; REPLY]) {
-    let bytes = list_bytes(room);
+    let bytes = bytes_of::<LIST_BYTES>(room);
     write_all(out, &bytes);
 }
 
@@ -119,6 +92,6 @@ pub fn say_halves(out: Stdout, room: &[u16; LIST]) {
 }
 
 pub fn say_rows(out: Stdout, room: &[u32; SHEET]) {
-    let bytes = rows_bytes(room);
+    let bytes = bytes_of::<ROWS_BYTES>(room);
     write_all(out, &bytes);
 }

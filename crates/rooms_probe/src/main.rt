@@ -29,20 +29,12 @@ const ENDS_AT: u32 = 5816;
 
 const ROWS_AT: u32 = 8138;
 
-// A number of two bytes that is read; `past` where the input has ended.
-#[derive(Clone, Copy)]
-struct Size {
-    n: usize,
-    past: bool,
-}
-
-fn next_size(input: Stdin) -> Size {
+// A number of two bytes that is read; as an error what came of it where the input has ended.
+fn next_size(input: Stdin) -> Result<usize, usize> {
     let mut two = [0u8; 2];
     let n = read_full(input, &mut two);
-    Size {
-        n: wide(two[0]) as usize + 256 * (wide(two[1]) as usize),
-        past: n < 2,
-    }
+    let size = wide(two[0]) as usize + 256 * (wide(two[1]) as usize);
+    if n < 2 { Err(size) } else { Ok(size) }
 }
 
 // So many bytes of a buffer, or all that it has.
@@ -135,10 +127,11 @@ fn day(rt: HostRuntime, rooms: &[u8], plan: usize, events: usize, buffer: &mut [
         &mut buffer[..m],
     );
     say_both(rt, &links, &rows, &out, &kept);
-    let mut left = events;
-    while left > 0 {
-        let next = next_size(rt.stdin());
-        let n = within(next.n, buffer);
+    for _ in 0..events {
+        let size = match next_size(rt.stdin()) {
+            Ok(size) | Err(size) => size,
+        };
+        let n = within(size, buffer);
         event(
             rt,
             &links,
@@ -149,23 +142,19 @@ fn day(rt: HostRuntime, rooms: &[u8], plan: usize, events: usize, buffer: &mut [
             &mut kept,
             &mut buffer[..n],
         );
-        left -= 1;
     }
 }
 
-// A case; false where the input has ended.
-fn case(rt: HostRuntime, space: &mut [u8], buffer: &mut [u8]) -> bool {
-    let events = next_size(rt.stdin());
-    let plan = next_size(rt.stdin());
-    let length = next_size(rt.stdin());
-    if length.past {
-        return false;
-    }
-    let n = within(length.n, space);
+// A case; none where the input has ended.
+fn case(rt: HostRuntime, space: &mut [u8], buffer: &mut [u8]) -> Option<()> {
+    let events = next_size(rt.stdin()).ok()?;
+    let plan = next_size(rt.stdin()).ok()?;
+    let length = next_size(rt.stdin()).ok()?;
+    let n = within(length, space);
     read_full(rt.stdin(), &mut space[..n]);
-    let m = within(length.n, space);
-    day(rt, &space[..m], plan.n, events.n, buffer);
-    true
+    let m = within(length, space);
+    day(rt, &space[..m], plan, events, buffer);
+    Some(())
 }
 
 fn main(rt: HostRuntime) {
@@ -173,11 +162,9 @@ fn main(rt: HostRuntime) {
     let space: &mut [u8] = &mut room;
     let mut more = io::large_buffer();
     let buffer: &mut [u8] = &mut more;
-    let mut turns = u64::MAX;
-    while turns > 0 {
-        if !case(rt, space, buffer) {
+    for _ in 0..u64::MAX {
+        if case(rt, space, buffer).is_none() {
             break;
         }
-        turns -= 1;
     }
 }

@@ -37,20 +37,21 @@ fn word_at(bytes: &[u8], from: u32, k: u16) -> u32 {
     word(bytes, from % 65536 + 4 * (k as u32))
 }
 
-pub fn links_of(bytes: &[u8]) -> [u32; LINKS] {
-    let mut room = [0u32; LINKS];
-    for k in 0..LINKS {
-        room[k] = word_at(bytes, 0, k as u16);
+// The numbers from a place on.
+fn words_of<const N: usize>(bytes: &[u8], from: u32) -> [u32; N] {
+    let mut room = [0u32; N];
+    for k in 0..N {
+        room[k] = word_at(bytes, from, (k % 65536) as u16);
     }
     room
 }
 
+pub fn links_of(bytes: &[u8]) -> [u32; LINKS] {
+    words_of(bytes, 0)
+}
+
 pub fn kept_of(bytes: &[u8], from: u32) -> [u32; KEPT] {
-    let mut room = [0u32; KEPT];
-    for k in 0..KEPT {
-        room[k] = word_at(bytes, from, k as u16);
-    }
-    room
+    words_of(bytes, from)
 }
 
 pub fn list_of(bytes: &[u8], from: u32) -> [u16; LIST] {
@@ -62,9 +63,5 @@ pub fn list_of(bytes: &[u8], from: u32) -> [u16; LIST] {
 }
 
 pub fn rows_of(bytes: &[u8], from: u32) -> [u32; SHEET] {
-    let mut room = [0u32; SHEET];
-    for k in 0..SHEET {
-        room[k] = word_at(bytes, from, k as u16);
-    }
-    room
+    words_of(bytes, from)
 }

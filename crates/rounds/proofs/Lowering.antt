@@ -6,12 +6,12 @@ use Prim.Native.Nat.{ℕ, suc, ◌+◌, ◌*◌, ◌<◌, ◌≤◌}
 use native.Mathlib.Omega.{arith}
 use native.Mathlib.Decide.{dec_lt, ℕ_discrete}
 use native.Mathlib.Numerals.{add-one}
-use lib.ListN.{length, get_or, set, drop, replicate, length-set, length-replicate, get_or-replicate, drop_of_length-le}
+use lib.ListN.{length, get_or, set, drop, length-set, drop_of_length-le}
 use lib.Seq.{get_or-set_same, get_or-set_other, drop-cons}
 use Rattle.tables.specs.Tables.{side, room}
-use Rattle.tables.specs.Entries.{nowhere, far, small, wide, raw, Lesser}
+use Rattle.tables.specs.Entries.{nowhere, small, wide, raw, Lesser}
 use Rattle.tables.proofs.Widths.{wide_in, wide_out, wide_there, wide_mono}
-use Rattle.rounds.specs.Ways.{Shorter, sum, Capped, Down, Dropped, DroppedRow, RowReady, RowLowered, LowerReady, LowerDone}
+use Rattle.rounds.specs.Ways.{Shorter, sum, Capped, Down, Dropped, DroppedRow, RowReady, RowLowered, LowerReady}
 
 -- ---- the sum
 
@@ -19,9 +19,6 @@ pub record Summing (t : List ℕ) (q all : ℕ) : Type 0 where
   pub within : q ≤ room
   pub left : all + sum (drop q t) ≡ sum t
   pub most : all ≤ q * nowhere
-
-pub sum_start : (t : List ℕ) → Summing t 0 0
-sum_start t = let e : sum (drop 0 t) ≡ sum t = refl in record { within = omega arith; left = omega (arith, e); most = omega arith }
 
 pub sum_turn : (t : List ℕ) (q all : ℕ) → Capped t → q < room → Summing t q all → Summing t (q + 1) (all + get_or t q 0)
 unfolding sum
@@ -59,30 +56,6 @@ same_list (a ∷ t) (b ∷ t') e h s =
 pub unchanged : (t t' : List ℕ) → Capped t → Capped t' → Down t t' → sum t ≤ sum t' → t' ≡ t
 unchanged t t' c c' d s = same_list t t' (omega (arith, c.long, c'.long)) (λ q h. d q (omega (arith, c.long))) s
 
--- ---- a row less a number
-
-pub record Dropping (n z d : ℕ) (t : List ℕ) (j : ℕ) (l : List ℕ) : Type 0 where
-  pub long : length l ≡ side
-  pub within : j ≤ n
-  pub few : n ≤ side
-  pub each : (y : ℕ) → y < j → Dropped (raw t z y) d (get_or l y 0)
-  pub past : (y : ℕ) → j ≤ y → y < side → get_or l y 0 ≡ far
-
-pub drop_start : (n z d : ℕ) (t : List ℕ) → n ≤ side → Dropping n z d t 0 (replicate side far)
-drop_start n z d t few = record { long = length-replicate {A = ℕ} side far; within = omega arith; few = few; each = λ y h. absurd (omega arith); past = λ y h l. get_or-replicate {A = ℕ} side y far 0 l }
-
-pub drop_turn : (n z d : ℕ) (t : List ℕ) (j : ℕ) (l : List ℕ) (v : ℕ) → j < n → Dropping n z d t j l → Dropped (raw t z j) d v → Dropping n z d t (j + 1) (set l j v)
-drop_turn n z d t j l v h g e = record { long = length-set l j v ∙ g.long; within = omega arith; few = g.few; each = each; past = λ y a b. get_or-set_other l j y v 0 (omega arith) ∙ g.past y (omega arith) b }
-  where
-    each : (y : ℕ) → y < j + 1 → Dropped (raw t z y) d (get_or (set l j v) y 0)
-    each y a = elim (ℕ_discrete y j) [
-      | yes k ↦ rw (k, get_or-set_same l j v 0 (omega (arith, g.long, g.few))) e
-      | no k ↦ rw (get_or-set_other l j y v 0 k) (g.each y (omega arith))
-    ]
-
-pub drop_ended : (n z d : ℕ) (t : List ℕ) (j : ℕ) (l : List ℕ) → n ≤ j → Dropping n z d t j l → DroppedRow n z d t l
-drop_ended n z d t j l h g = record { long = g.long; each = λ y a. g.each y (omega arith); past = λ y a b. g.past y (omega (arith, g.within)) b }
-
 -- ---- one row
 
 -- row x before its entry j: t₀ is the table before the row
@@ -99,10 +72,6 @@ start x l t c = record { capped = c; within = omega arith; done = λ y h. absurd
 module _ (x : ℕ) (l t₀ : List ℕ) (j : ℕ) (t : List ℕ) (ready : RowReady x l t₀) (g : Lowering x l t₀ j t) (h : j < side) where
   inside : x * side + j < room
   inside = omega (arith, ready.row)
-
-  -- both numbers are small
-  pub are_small : (get_or l j 0 < small) × (raw t x j < small)
-  are_small = (ready.small j h, omega (arith, g.capped.most (x * side + j) inside))
 
   pub turn : (r : ℕ) → Lesser (get_or l j 0) (raw t x j) r → Lowering x l t₀ (j + 1) (set t (x * side + j) r)
   turn r s = record { capped = record { long = length-set t (x * side + j) r ∙ g.capped.long; most = most }; within = omega arith; done = done; rest = rest; down = down }
@@ -173,13 +142,3 @@ may_lower_row n x z d l t ready row j h = elim (dec_lt j n) [
       ]
   | no hj ↦ omega (arith, row.past j (omega arith) h)
 ]
-
-pub lowered_row : (n x z d : ℕ) (l t₀ t : List ℕ) → LowerReady n x z d t₀ → DroppedRow n z d t₀ l → RowLowered x l t₀ t → LowerDone n x z d t₀ t
-lowered_row n x z d l t₀ t ready row g = record {
-  capped = g.capped;
-  eased = record {
-    cell = λ y a. shorter (raw t₀ x y) (raw t₀ z y) d (get_or l y 0) (raw t x y) (ready.capped.most (x * side + y) (omega (arith, ready.row, ready.few))) (row.each y a) (g.done y (omega (arith, ready.few)));
-    rest = λ v y e a. ap wide (g.rest v y e (omega (arith, ready.few)));
-  };
-  down = g.down;
-}

@@ -6,7 +6,7 @@ use Prim.Native.Nat.{ℕ, ◌+◌, ◌<◌, ◌≤◌}
 use native.Mathlib.Omega.{arith}
 use native.Mathlib.Decide.{ℕ_discrete}
 use lib.Dec.{ltb}
-use borrow.Author.Tests.{ltb-true, ltb-false}
+use borrow.Author.Tests.{ltb-false}
 use Rattle.plan.specs.Limits.{farthest}
 use Rattle.tables.specs.Tables.{side}
 use Rattle.tables.specs.Entries.{raw, at}
@@ -105,9 +105,6 @@ module _ (s w : List ℕ) (m n q : ℕ) (t : List ℕ) (r : RoundReady s w m n t
 
 -- ---- one round
 
-pub round_start : (s w : List ℕ) (m n : ℕ) (t : List ℕ) → RoundReady s w m n t → Rounded s w m n 0 t t
-round_start s w m n t r = record { ready = r; lower = λ X Y hx hy. omega arith; still = λ X Z u d j e neg hj fin. absurd (omega (arith, e.below)); down = λ q h. omega arith }
-
 module _ (s w : List ℕ) (m n q : ℕ) (t₀ t t' : List ℕ) (g : Rounded s w m n q t₀ t) (h : q < m) (d : RowDone s w m n q t t') where
   points : {X Y u v : ℕ} → SheetEdge s w (q + 1) X Y u v → (X < n) × (Y < n)
   points {X} {Y} {u} {v} e = inside g.ready.ready (omega arith) X Y u v e
@@ -123,9 +120,6 @@ module _ (s w : List ℕ) (m n q : ℕ) (t₀ t t' : List ℕ) (g : Rounded s w 
             | no k ↦ omega (arith, d.lower X j p.0 hj, g.still X Z u v j (record { row = e.row; below = omega (arith, e.below); edge = e.edge }) neg hj fin)
           ]
 
-pub round_ended : (s w : List ℕ) (m n q : ℕ) (t₀ t : List ℕ) → m ≤ q → (q ≤ m) × Rounded s w m n q t₀ t → Rounded s w m n m t₀ t
-round_ended s w m n q t₀ t h g = let e : q ≡ m = omega (arith, g.0) in subst (λ (i : ℕ). Rounded s w m n i t₀ t) e g.1
-
 -- ---- rounds until nothing falls
 
 pub record Settling (s w : List ℕ) (m n : ℕ) (t : List ℕ) (before : ℕ) (more : Bool) : Type 0 where
@@ -133,20 +127,10 @@ pub record Settling (s w : List ℕ) (m n : ℕ) (t : List ℕ) (before : ℕ) (
   pub total : before ≡ sum t
   pub still : more ≡ false → Still (SheetEdge s w m) n (at t) (at t)
 
-pub settle_start : (s w : List ℕ) (m n : ℕ) (t : List ℕ) {all : ℕ} → all ≡ sum t → RoundReady s w m n t → Settling s w m n t all true
-settle_start s w m n t e r = record { ready = r; total = e; still = λ e. absurd (let z : ◌≡◌ {A = ℕ} 0 1 = cc in omega arith) }
-
 -- what is left to fall
 abbrev pub left : Bool → ℕ → ℕ
 left true all = all + 1
 left false all = 0
-
-pub settle_less : (more : Bool) (before after : ℕ) → more ≡ true → left (ltb after before) after < left more before
-settle_less more before after e = rw e (go (ltb after before) refl)
-  where
-    go : (b : Bool) → ltb after before ≡ b → left b after < before + 1
-    go true k = omega (arith, ltb-true after before k)
-    go false k = omega arith
 
 pub settle_turn : (s w : List ℕ) (m n : ℕ) (t t' : List ℕ) (before after : ℕ) (more : Bool) → Settling s w m n t before more → Rounded s w m n m t t' → after ≡ sum t' → Settling s w m n t' after (ltb after before)
 settle_turn s w m n t t' before after more c g e = record { ready = g.ready; total = e; still = still }

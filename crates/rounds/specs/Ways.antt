@@ -3,7 +3,7 @@
 use Rattle.std.specs.Prelude.{◌≡◌, ◌⊎◌, ◌≢◌, List, [], ◌∷◌, ℕ, min, ◌+◌, ◌-◌, ◌<◌, ◌≤◌, eqb, length, get_or, if◌then◌else◌}
 use Rattle.network.specs.Walks.{Walk, NonNegative, Vee}
 use Rattle.tables.specs.Tables.{Table, bias, none, side, room}
-use Rattle.tables.specs.Entries.{nowhere, far, small, raw, at, Lesser, Shallow}
+use Rattle.tables.specs.Entries.{nowhere, far, small, raw, at, Lesser, RowBy, Shallow}
 use Rattle.tables.specs.Distances.{Distances}
 use Rattle.rows.specs.Sheet.{SheetReady, SheetEdge, Laid}
 use Rattle.rows.specs.declared.sheet.Row.{Row}
@@ -40,10 +40,8 @@ pub record Dropped (v drop l : ℕ) : Type 0 where
   pub gone : nowhere ≤ v → l ≡ far
 
 -- l is the row z of t, less drop, and far past the points
-pub record DroppedRow (n z drop : ℕ) (t l : List ℕ) : Type 0 where
-  pub long : length l ≡ side
-  pub each : (j : ℕ) → j < n → Dropped (raw t z j) drop (get_or l j 0)
-  pub past : (j : ℕ) → n ≤ j → j < side → get_or l j 0 ≡ far
+abbrev pub DroppedRow : ℕ → ℕ → ℕ → List ℕ → List ℕ → Type 0
+DroppedRow n z drop = RowBy (λ v. Dropped v drop) n z
 
 -- what lowering row x of t by the row l asks, and what it does
 pub record RowReady (x : ℕ) (l t : List ℕ) : Type 0 where

@@ -4,13 +4,12 @@
 
 #![tactic(auto)]
 
-ghost use Rattle.std.specs.Prelude.{◌≡◌, ◌+◌, ◌<◌, ◌≤◌, min, ◌-◌};
+ghost use Rattle.std.specs.Prelude.{◌≡◌, ◌+◌, ◌<◌, ◌≤◌};
 ghost use Rattle.tables.specs.Entries.{nowhere};
 ghost use Rattle.rounds.specs.Ways.{Capped, Dropped, DroppedRow, RowReady, RowLowered, LowerReady, LowerDone, fall_of, sum, RoundReady, RowDone, Rounded, Settled};
 
-use plan::{LINK, ORDINARY, WAIT};
-use rows::{Row, SHEET, index, row_at};
-use tables::{FAR, NONE, ROOM, SIDE, lesser};
+use rows::{LINK_ROW, ORDINARY_ROW, Row, SHEET, WAIT_ROW, row_at};
+use tables::{FAR, NONE, ROOM, SIDE, lesser, row_by};
 
 // The negative edge of a row: where it leaves, where it leads, and how far it is below zero, 0 where the row has none.
 #[derive(Clone, Copy)]
@@ -20,12 +19,6 @@ pub struct Fall {
     pub drop: u64,
 }
 
-const LINK_ROW: u64 = LINK as u64;
-
-const ORDINARY_ROW: u64 = ORDINARY as u64;
-
-const WAIT_ROW: u64 = WAIT as u64;
-
 // `v` less `drop`, where a walk joins the two points.
 fn dropped(v: u32, drop: u32) -> u32
     requires { v < nowhere → drop ≤ v }
@@ -34,17 +27,12 @@ fn dropped(v: u32, drop: u32) -> u32
     if v < NONE { v - drop } else { FAR }
 }
 
-// Row `z` less `drop`. It is an array of its own, so that the compiler knows that no store to the table changes it.
+// Row `z` less `drop`.
 pub fn less(t: &[u32; ROOM], n: usize, x: usize, z: usize, drop: u32) -> [u32; SIDE]
     requires { LowerReady n x z drop t.now }
     ensures { DroppedRow n z drop t.now result }
 {
-    let at = z * SIDE;
-    let mut l = [FAR; SIDE];
-    for j in 0..n {
-        l[j] = dropped(t[at + j], drop);
-    }
-    l
+    row_by(t, n, z, |v| dropped(v, drop))
 }
 
 // Row `x` lowered by the row `l`, four entries at a time.
@@ -67,19 +55,6 @@ fn lower(t: &mut [u32; ROOM], n: usize, x: usize, z: usize, drop: u32)
     lower_by(&mut *t, x, l);
 }
 
-// What `a` has more than `b`.
-fn excess(a: u64, b: u64) -> u64
-    ensures { result ≡ a - b }
-{
-    if b < a { a - b } else { 0 }
-}
-
-fn least(a: u64, b: u64) -> u64
-    ensures { result ≡ min a b }
-{
-    if a < b { a } else { b }
-}
-
 // The negative edge of a row, whose link lasts `p`.
 pub fn fall_of(row: Row, p: u64) -> Fall
     ensures { result ≡ fall_of row p }
@@ -88,14 +63,14 @@ pub fn fall_of(row: Row, p: u64) -> Fall
         return Fall {
             from: row.from,
             to: row.to,
-            drop: excess(row.second, row.first),
+            drop: row.second.saturating_sub(row.first),
         };
     }
     if row.kind == WAIT_ROW {
         return Fall {
             from: row.from,
             to: row.to,
-            drop: least(row.first, p),
+            drop: row.first.min(p),
         };
     }
     if row.kind == LINK_ROW {
@@ -125,14 +100,14 @@ fn ease(
     ensures { RowDone sheet.now durations.now m n q t.old t.new }
 {
     let row = row_at(sheet, q);
-    let p = durations[index(row.over)];
+    let p = durations[row.over as usize];
     let fall = fall_of(row, p);
     if 0 < fall.drop {
         lower(
             &mut *t,
             n,
-            index(fall.from),
-            index(fall.to),
+            fall.from as usize,
+            fall.to as usize,
             fall.drop as u32,
         );
     }
@@ -154,8 +129,8 @@ fn total(t: &[u32; ROOM]) -> u64
     ensures { result ≡ sum t.now }
 {
     let mut all: u64 = 0;
-    for q in 0..ROOM {
-        all += t[q] as u64;
+    for v in t {
+        all += u64::from(*v);
     }
     all
 }
@@ -173,6 +148,7 @@ pub fn settle(
 {
     let mut before = total(&*t);
     let mut more = true;
+    // It goes on until nothing falls: no index is counted.
     while more {
         round(&mut *t, sheet, durations, n, m);
         let after = total(&*t);

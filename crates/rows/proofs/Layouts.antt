@@ -1,12 +1,11 @@
 -- A plan laid out on a sheet, record by record. Assumes nothing.
-use mathlib.Core.Path.{◌≡◌, refl, sym, ap, ◌∙◌, subst}
+use mathlib.Core.Path.{◌≡◌, refl, sym, ap, ◌∙◌}
 use mathlib.Core.Logic.{◌≢◌}
-use mathlib.Core.Bool.{Bool, true, false, ◌&&◌}
+use mathlib.Core.Bool.{true}
 use mathlib.Core.List.{List, [], ◌∷◌}
 use Prim.Native.Nat.{ℕ, suc, ◌+◌, ◌-◌, ◌*◌, ◌<◌, ◌≤◌}
 use native.Mathlib.Omega.{arith}
 use native.Mathlib.Decide.{ℕ_discrete, dec_lt}
-use lib.Dec.{eqb}
 use lib.ListN.{length, get_or, set, drop, replicate, length-set, length-take, length-replicate, get_or-replicate, get_or-eq_default}
 use lib.Seq.{get_or-set_same, get_or-set_other, get_or-take, drop-cons, drop-length}
 use borrow.Author.Tests.{eq-eqb, ne_eqb}
@@ -157,33 +156,23 @@ module _ {p : Plan} {t : List ℕ} {q : ℕ} (s : Starting p t q) (h : 0 < q) wh
       drop-cons (records_of p) (q - 1) blank l
       ∙ rw (z, get_or-take p.count p.records (q - 1) blank (omega (arith, s.within))) refl
 
-  pub starting_more : {v : ℕ} → (get_or p.records (q - 1) blank).b < bytes → v ≡ (if is link (get_or p.records (q - 1) blank) then (get_or p.records (q - 1) blank).a else get_or t (get_or p.records (q - 1) blank).b 0)
-      → Starting p (set t (get_or p.records (q - 1) blank).b v) (q - 1)
+  -- the first link that ends at a point counts
+  pub starting_link : (get_or p.records (q - 1) blank).b < bytes → (get_or p.records (q - 1) blank).kind ≡ 2 → Starting p (set t (get_or p.records (q - 1) blank).b (get_or p.records (q - 1) blank).a) (q - 1)
   unfolding first_that
-  starting_more {v} b e =
+  starting_link b k =
       record { room = s.room; few = s.few; within = omega (arith, s.within); long = simp length-set s.long; each = λ c l. rw at_hand (each c l (ℕ_discrete c r.b)) }
     where
-      own : (k : Bool) → is link (get_or p.records (q - 1) blank) ≡ k
-          → (if k then (get_or p.records (q - 1) blank).a else get_or t (get_or p.records (q - 1) blank).b 0)
-          ≡ (if k && eqb (get_or p.records (q - 1) blank).b (get_or p.records (q - 1) blank).b then get_or p.records (q - 1) blank else first_that (ends_at (get_or p.records (q - 1) blank).b) (drop q (records_of p))).a
-      own true k = rw (eq-eqb r.b r.b refl) refl
-      own false k = s.each r.b b
-
-      passed : (k : Bool) (x y : Record) → (if k && false then x else y).a ≡ y.a
-      passed true x y = refl
-      passed false x y = refl
+      its : is link (get_or p.records (q - 1) blank) ≡ true
+      its = eq-eqb r.kind 2 k
 
       each : (c : ℕ) → c < bytes → Dec (c ≡ (get_or p.records (q - 1) blank).b)
-          → get_or (set t (get_or p.records (q - 1) blank).b v) c 0 ≡ (first_that (ends_at c) (get_or p.records (q - 1) blank ∷ drop q (records_of p))).a
-      each c l (yes i) =
-          subst
-          (λ (x : ℕ). get_or (set t (get_or p.records (q - 1) blank).b v) x 0 ≡ (first_that (ends_at x) (get_or p.records (q - 1) blank ∷ drop q (records_of p))).a)
-          (sym i)
-          (get_or-set_same t r.b v 0 (omega (arith, s.long)) ∙ e ∙ own (is link r) refl)
-      each c l (no i) = get_or-set_other t r.b c v 0 i ∙ s.each c l ∙ sym (rw (ne_eqb c r.b i) (passed (is link r) r (first_that (ends_at c) (drop q (records_of p)))))
+          → get_or (set t (get_or p.records (q - 1) blank).b (get_or p.records (q - 1) blank).a) c 0 ≡ (first_that (ends_at c) (get_or p.records (q - 1) blank ∷ drop q (records_of p))).a
+      each c l (yes i) = rw (i, its, eq-eqb r.b r.b refl, get_or-set_same t r.b r.a 0 (omega (arith, s.long, b))) refl
+      each c l (no i) = rw (its, ne_eqb c r.b i, get_or-set_other t r.b c r.a 0 i) (s.each c l)
 
-pub starting_all : {p : Plan} {t : List ℕ} {q : ℕ} → Starting p t q → q ≡ 0 → Starts (records_of p) t
-starting_all s e = record { long = s.long; each = rw e at s.each }
+  pub starting_other : ((get_or p.records (q - 1) blank).kind ≡ 2 → ⊥) → Starting p t (q - 1)
+  unfolding first_that
+  starting_other n = record { room = s.room; few = s.few; within = omega (arith, s.within); long = s.long; each = λ c l. rw (at_hand, ne_eqb r.kind 2 n) (s.each c l) }
 
 -- the row of the record that the code reads
 laid_row : (p : Plan) (q : ℕ) {x : Row} {s s' : List ℕ} → p.count ≤ most_records → q < p.count → length s ≡ sheet_room → x ≡ row_of (records_of p) (get_or p.records q blank) → s' ≡ stored s q x

@@ -10,19 +10,15 @@ use Rattle.plan.specs.Limits.{farthest}
 use Rattle.tables.specs.declared.table.Part.{Part}
 use Rattle.rows.specs.declared.sheet.Row.{Row}
 use Rattle.tables.specs.Tables.{side, Closed}
-use Rattle.tables.specs.Entries.{at, Sound, CloseReady, CloseDone}
+use Rattle.tables.specs.Entries.{at, Sound, CloseDone}
 use Rattle.tables.specs.Distances.{Inside, Drawn}
 use Rattle.tables.specs.Steps.{OfferedOf, takes_of, Begun, PartOf}
 use Rattle.rows.specs.Sheet.{kind_at, from_at, to_at, first_at, second_at, over_at, row_at, by, Laid, ordinary, there, back, wait, SheetEdge, SheetReady, Drawing}
-use Rattle.rows.specs.Filled.{PutReady, Put, ordinary_put, wait_put, link_put, nothing_put, LayReady}
+use Rattle.rows.specs.Filled.{Put, ordinary_put, wait_put, link_put, nothing_put, LayReady}
 use Rattle.rows.specs.Filled.{Verdict, Filled}
 use Rattle.tables.proofs.Closing.{distances, cycle}
 use Rattle.tables.proofs.Widths.{shallow}
 use Rattle.tables.proofs.Offers.{Plus, old, new, same, at_place, plus_part, begun}
-
--- a wait's offer: its weight is the lesser of w and the duration
-pub wait_offered : {b : Part} {k i j f g p d : ℕ} {t t' : List ℕ} → k ≡ 4 → d ≡ min f p → OfferedOf (takes_of b 0 d) i j 0 d t t' → Put b k i j f g p t t'
-wait_offered {b} {i = i} {j = j} {t = t} {t' = t'} e h o = wait_put e (subst (λ (d : ℕ). OfferedOf (takes_of b 0 d) i j 0 d t t') h o)
 
 -- the edges of a sheet are between its points
 pub inside : {s w : List ℕ} {m n q : ℕ} → SheetReady s w m n → q ≤ m → (X Y u d : ℕ) → SheetEdge s w q X Y u d → (X < n) × (Y < n)
@@ -187,17 +183,7 @@ module _ (b : Part) (s w : List ℕ) (n q : ℕ) (t : List ℕ) (ready : LayRead
   over_in e ho = rw (ho, e) (sr.over q ready.below)
 
   module _ {r : Row} {i j o : ℕ} (e : r ≡ row_at s q) (hi : i ≡ r.from) (hj : j ≡ r.to) (ho : o ≡ r.over) where
-    pub may_put : PutReady r.kind i j r.first r.second (by w o) t
-    may_put = rw (hi, hj, e) (record {
-      sound = ready.so_far.sound;
-      from = λ h. omega (arith, from_in h, sr.few);
-      to = λ h. omega (arith, to_in h, sr.few);
-      first = first_in;
-      second = second_in;
-      lasts = sr.durations o;
-    })
-
-    -- and what they do
+    -- what they do
     row_put : {t' : List ℕ} → Put b (kind_at s q) (from_at s q) (to_at s q) (first_at s q) (second_at s q) (by w (over_at s q)) t t' → Drawing b s w n (q + 1) t'
     row_put (ordinary_put k e) = ordinary_row _ e.sound k e
     row_put (wait_put k e) = wait_row _ e.sound k _ refl e
@@ -210,14 +196,6 @@ module _ (b : Part) (s w : List ℕ) (n q : ℕ) (t : List ℕ) (ready : LayRead
 -- before the first row
 pub none_yet : (b : Part) (s w : List ℕ) (n : ℕ) (t : List ℕ) → n ≤ side → Begun t → Drawing b s w n 0 t
 none_yet b s w n t few h = record { sound = h.sound; drawn = begun (PartOf b (SheetEdge s w 0)) n (at t) (λ X Y u d p. omega (arith, p.edge.below)) (record { self = λ x l. h.self x (omega arith); other = λ x y l k. h.other x y (omega arith) (omega arith) }) }
-
--- after the last
-pub drawn_all : {b : Part} {s w : List ℕ} {n m q : ℕ} {t : List ℕ} → m ≤ q → (q ≤ m) × Drawing b s w n q t → Drawing b s w n m t
-drawn_all {b} {s} {w} {n} {m} {q} {t} h d = let e : q ≡ m = omega arith in subst (λ (i : ℕ). Drawing b s w n i t) e d.1
-
--- it can be closed
-pub closable : {b : Part} {s w : List ℕ} {m n : ℕ} {t : List ℕ} → SheetReady s w m n → Drawing b s w n m t → CloseReady n t
-closable ready d = record { sound = d.sound; few = ready.few; self = d.drawn.self; within = d.drawn.within }
 
 -- the table of all rows, closed
 pub filled : {b : Part} {s w : List ℕ} {m n : ℕ} {t t' : List ℕ} {r : Bool} → SheetReady s w m n → Drawing b s w n m t → CloseDone n t t' r → Filled b s w m n t' r

@@ -1,5 +1,5 @@
 // A plan's records laid out on a sheet.
-ghost use Rattle.std.specs.Prelude.{◌≡◌, ◌≤◌, ◌<◌, replicate, if◌then◌else◌};
+ghost use Rattle.std.specs.Prelude.{◌≡◌, ◌≤◌, ◌<◌, replicate};
 ghost use Rattle.plan.specs.APlan.{records_of};
 ghost use Rattle.plan.specs.Limits.{most_records};
 ghost use Rattle.rows.specs.Sheet.{sheet_room};
@@ -22,25 +22,6 @@ struct Laid {
     over: u32,
 }
 
-fn byte(x: u8) -> u32
-    ensures { result ≡ x }
-{
-    x as u32
-}
-
-// The first where `so`, else the second.
-fn pick(so: bool, a: u32, b: u32) -> u32
-    ensures { result ≡ (if so then a else b) }
-{
-    if so { a } else { b }
-}
-
-fn pick_byte(so: bool, a: u8, b: u8) -> u8
-    ensures { result ≡ (if so then a else b) }
-{
-    if so { a } else { b }
-}
-
 // The A of the link that ends at each point, by the point's byte, 0 where none does: from the last record to the first, since the
 // first link counts. One pass for the whole plan, so that laying it out does not look for a link in each row.
 fn starts_of(plan: Plan) -> [u8; BYTES]
@@ -48,12 +29,12 @@ fn starts_of(plan: Plan) -> [u8; BYTES]
     ensures { Starts (records_of plan) result }
 {
     let mut starts = [0u8; BYTES];
-    let mut left = plan.count as usize;
-    while 0 < left {
-        left -= 1;
-        let r = plan.records[left];
-        let c = r.b as usize;
-        starts[c] = pick_byte(r.kind == LINK, r.a, starts[c]);
+    let count = plan.count as usize;
+    for q in (0..count).rev() {
+        let r = plan.records[q];
+        if r.kind == LINK {
+            starts[r.b as usize] = r.a;
+        }
     }
     starts
 }
@@ -64,15 +45,19 @@ fn row_of(r: Record, start: u8) -> Laid
 {
     let first = split(r.first);
     let second = split(r.second);
-    let from = byte(r.a);
-    let over = byte(r.b);
+    let to = if r.kind == WAIT { start } else { r.b };
+    let last = if r.kind == LINK {
+        second.up
+    } else {
+        first.down
+    };
     Laid {
-        kind: byte(r.kind),
-        from: from,
-        to: pick(r.kind == WAIT, byte(start), over),
+        kind: u32::from(r.kind),
+        from: u32::from(r.a),
+        to: u32::from(to),
         first: first.up,
-        second: pick(r.kind == LINK, second.up, first.down),
-        over: over,
+        second: last,
+        over: u32::from(r.b),
     }
 }
 

@@ -7,4 +7,4 @@ mod layout;
 mod sheet;
 
 pub use layout::lay_out;
-pub use sheet::{Row, SHEET, fill, index, row_at, word};
+pub use sheet::{LINK_ROW, ORDINARY_ROW, Row, SHEET, WAIT_ROW, fill, row_at};

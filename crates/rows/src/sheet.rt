@@ -1,6 +1,6 @@
 // The sheet of a plan: its records as six numbers each, lent to the test, and the tables of the edges that they stand for
 // at some durations.
-ghost use Rattle.std.specs.Prelude.{◌≡◌, ◌+◌, ◌<◌, min};
+ghost use Rattle.std.specs.Prelude.{◌≡◌, ◌+◌, ◌<◌};
 ghost use Rattle.plan.specs.Limits.{most_records};
 ghost use Rattle.rows.specs.Sheet.{SheetReady, Drawing, row_at};
 ghost use Rattle.rows.specs.Filled.{PutReady, Put, LayReady, Filled};
@@ -10,6 +10,7 @@ use tables::{Part, ROOM, SIDE, begin, close, offer_of};
 
 // A row has the record's kind, the points that it joins, from and to, its two numbers, and its second point. The sheet holds 32 bits of
 // each, which is all that a record has.
+// The rows are a lent room of numbers, kind and all, of the C interface: so no enum.
 #[derive(Clone, Copy)]
 pub struct Row {
     pub kind: u64,
@@ -25,30 +26,11 @@ pub const WIDTH: usize = 6;
 pub const SHEET: usize = WIDTH * MOST_RECORDS;
 
 // The kinds of record, as a row has them.
-const LINK_ROW: u64 = LINK as u64;
+pub const LINK_ROW: u64 = LINK as u64;
 
-const ORDINARY_ROW: u64 = ORDINARY as u64;
+pub const ORDINARY_ROW: u64 = ORDINARY as u64;
 
-const WAIT_ROW: u64 = WAIT as u64;
-
-fn lesser(a: u64, b: u64) -> u64
-    ensures { result ≡ min a b }
-{
-    if a < b { a } else { b }
-}
-
-// A number of the sheet, where sums are of 64 bits.
-pub fn word(x: u32) -> u64
-    ensures { result ≡ x }
-{
-    x as u64
-}
-
-pub fn index(x: u64) -> usize
-    ensures { result ≡ x }
-{
-    x as usize
-}
+pub const WAIT_ROW: u64 = WAIT as u64;
 
 // Offers the edges of a row, as far as they are of the part; `p` is the duration of its link.
 fn put(
@@ -67,7 +49,7 @@ fn put(
     if kind == ORDINARY_ROW {
         offer_of(&mut *t, part, from, to, first, second);
     } else if kind == WAIT_ROW {
-        let down = lesser(first, p);
+        let down = first.min(p);
         offer_of(&mut *t, part, from, to, 0, down);
     } else if kind == LINK_ROW {
         offer_of(&mut *t, part, from, to, p, 0);
@@ -82,12 +64,12 @@ pub fn row_at(sheet: &[u32; SHEET], q: usize) -> Row
 {
     let at = q * WIDTH;
     Row {
-        kind: word(sheet[at]),
-        from: word(sheet[at + 1]),
-        to: word(sheet[at + 2]),
-        first: word(sheet[at + 3]),
-        second: word(sheet[at + 4]),
-        over: word(sheet[at + 5]),
+        kind: u64::from(sheet[at]),
+        from: u64::from(sheet[at + 1]),
+        to: u64::from(sheet[at + 2]),
+        first: u64::from(sheet[at + 3]),
+        second: u64::from(sheet[at + 4]),
+        over: u64::from(sheet[at + 5]),
     }
 }
 
@@ -104,13 +86,13 @@ fn lay(
     ensures { Drawing part sheet.now durations.now n (q + 1) t.new }
 {
     let row = row_at(sheet, q);
-    let p = durations[index(row.over)];
+    let p = durations[row.over as usize];
     put(
         &mut *t,
         part,
         row.kind,
-        index(row.from),
-        index(row.to),
+        row.from as usize,
+        row.to as usize,
         row.first,
         row.second,
         p,

@@ -1,5 +1,4 @@
 -- The modules of proofs that belong to no one function. Other crates cite the ones that are `pub`.
 mod AfterALink
-mod ByKind
 pub mod Passed
 pub mod Shows

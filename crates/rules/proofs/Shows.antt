@@ -16,7 +16,6 @@ use Rattle.records.specs.Limits.{most_points}
 use Rattle.records.specs.Records.{Kind, point, link, ordinary, wait, unknown, kind_of, byte_of, is, one, how_many, some, points, watched, ends_at, from_to, leads, first_that, link_to}
 use Rattle.rules.specs.OneRecord.{Before, after, is_known, last_kind, in_order, room_for, zeros, named, apart, single, joined, bounded, number_for, number_for_with, number_of}
 use Rattle.rules.specs.Inside.{told, no_ending, fresh, with_record, ending_after, seconds_after}
-use Rattle.rules.proofs.ByKind.{is_unknown}
 use Rattle.rules.proofs.Passed.{Passed, passed}
 use Rattle.records.proofs.Records.{many_snoc, some_snoc, first_not_lem, first_so}
 use Rattle.records.specs.declared.Record.{Record}
@@ -127,6 +126,10 @@ module _ (rs : List Record) (s : Seen) (ends : List Ending) (seconds : List ℕ)
   -- what is kept gives a record the number that the records before it give it
   pub same_number : number_of (told s (get_or ends (r.b % most_points) no_ending) (get_or seconds (r.a % most_points) 0)) r z ≡ number_of (after rs) r z
   same_number = same (kind_of r.kind)
+
+-- a kind that is none of the four
+is_unknown : (k : ℕ) → (k ≡ 1 → ⊥) → (k ≡ 2 → ⊥) → (k ≡ 3 → ⊥) → (k ≡ 4 → ⊥) → kind_of k ≡ unknown
+is_unknown k a b c d = rw (ne_eqb k 1 a, ne_eqb k 2 b, ne_eqb k 3 c, ne_eqb k 4 d)
 
 -- the kind of a record is the byte of that kind
 pub kind_byte : (x : ℕ) (k : Kind) → is_known k ≡ true → kind_of x ≡ k → x ≡ byte_of k

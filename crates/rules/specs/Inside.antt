@@ -1,6 +1,6 @@
 -- What the functions behind the one-record reader compute. A reader of the rules can leave this page out: the open functions'
 -- contracts do not cite it. Assumes nothing.
-use Rattle.std.specs.Prelude.{not, ℕ, ◌+◌, ◌≤◌, eqb, pos, if◌then◌else◌}
+use Rattle.std.specs.Prelude.{not, ℕ, ◌+◌, ◌≤◌, eqb, pos, if◌then◌else◌, Result, Ok, Err}
 use Rattle.points.specs.Sets.{member, with_of}
 use Rattle.records.specs.Limits.{most_records}
 use Rattle.records.specs.Records.{Kind, point, link, ordinary, wait, unknown, is, one}
@@ -9,8 +9,6 @@ use Rattle.rules.specs.OneRecord.{Before, in_order, room_for, zeros, named, apar
 use Rattle.rules.specs.declared.Seen.{Seen}
 use Rattle.rules.specs.declared.Ending.{Ending}
 use Rattle.rules.specs.declared.Kept.{Kept}
-use Rattle.rules.specs.declared.One.{One}
-use Rattle.rules.specs.declared.One.TheVariants.{Good, Bad}
 
 -- the counts that are kept, by kind
 abbrev pub many_in : Seen → Kind → ℕ
@@ -85,16 +83,16 @@ with_record s r =
       watched = if is link r then with_of s.watched r.b else s.watched;
     }
 
--- the one-record reader's answer: number 0 with what is kept then, or the number of document 01
-unfoldable pub one_of : Seen → Ending → ℕ → Record → ℕ → One
+-- the one-record reader's answer: what is kept then, or the number of document 01
+unfoldable pub one_of : Seen → Ending → ℕ → Record → ℕ → Result Seen ℕ
 one_of s e seconds r z =
-    if eqb (number_of (told s e seconds) r z) 0 then Good (with_record s r)
-    else Bad (number_of (told s e seconds) r z)
+    if eqb (number_of (told s e seconds) r z) 0 then Ok (with_record s r)
+    else Err (number_of (told s e seconds) r z)
 
 -- document 01's number for each answer of the one-record reader
-abbrev pub number_in : One → ℕ
-number_in (Good s) = 0
-number_in (Bad k) = k
+abbrev pub number_in : Result Seen ℕ → ℕ
+number_in (Ok s) = 0
+number_in (Err k) = k
 
 -- a link is kept by the point that it ends at
 abbrev pub ending_after : Record → Ending → Ending

@@ -6,17 +6,15 @@
 
 #![tactic(auto)]
 
-ghost use Rattle.std.specs.Prelude.{◌≡◌, if◌then◌else◌};
-ghost use Rattle.points.specs.Sets.{with_of};
+ghost use Rattle.std.specs.Prelude.{◌≡◌};
 ghost use Rattle.records.specs.Records.{point, link, ordinary, wait};
 ghost use Rattle.rules.specs.OneRecord.{named, number_of};
 ghost use Rattle.rules.specs.Inside.{told, no_ending, kept_of, broken_of, Few, fresh, with_record, one_of, number_in, ending_after, seconds_after};
 
-use numbers::{at_most, is_nought, less, wide};
 use points::{has, with};
 use records::{
     FARTHEST, LINK, MOST_LINKS, MOST_ORDINARY, MOST_POINTS, MOST_WAITS, ORDINARY, POINT, Record,
-    WAIT, one_if,
+    WAIT,
 };
 
 // The reply numbers 4 to 11 and 15, and 0 for what is not refused.
@@ -71,22 +69,9 @@ pub struct Kept {
     pub bounded: bool,
 }
 
-// What the one-record reader answers: what is seen with the record, or the record's number.
-#[derive(Clone, Copy)]
-pub enum One {
-    Good(Seen),
-    Bad(u32),
-}
-
-// The set with a point more where `so`.
-fn with_if(so: bool, s: u32, p: u8) -> u32
-    ensures { result ≡ (if so then with_of s p else s) }
-{
-    if so { with(s, p) } else { s }
-}
-
 impl Kept {
     // The number of the first that is not kept.
+    #[tactic(auto, unfolding(crate::specs::Inside::broken_of))]
     fn first_broken(self) -> u32
         ensures { result ≡ broken_of self }
     {
@@ -137,7 +122,7 @@ impl Seen {
     fn names(self, r: Record) -> bool
         ensures { result ≡ named (told self no_ending 0) link r }
     {
-        (wide(r.a) < self.points) & (wide(r.b) < self.points)
+        (u32::from(r.a) < self.points) & (u32::from(r.b) < self.points)
     }
 
     fn point(self, r: Record, reserved: u8) -> Kept
@@ -146,8 +131,8 @@ impl Seen {
         Kept {
             order: self.kind <= r.kind,
             room: self.points < MOST_POINTS,
-            zeros: (r.b == 0) & (is_nought(r.first) & (is_nought(r.second) & (reserved == 0))),
-            named: wide(r.a) == self.points,
+            zeros: (r.b == 0) & ((r.first == 0) & ((r.second == 0) & (reserved == 0))),
+            named: u32::from(r.a) == self.points,
             apart: true,
             single: true,
             joined: true,
@@ -166,7 +151,7 @@ impl Seen {
             apart: r.a != r.b,
             single: true,
             joined: !has(self.watched, r.b),
-            bounded: at_most(1, r.first) & (less(r.first, r.second) & at_most(r.second, FARTHEST)),
+            bounded: (1 <= r.first) & ((r.first < r.second) & (r.second <= FARTHEST)),
         }
     }
 
@@ -177,12 +162,12 @@ impl Seen {
         Kept {
             order: self.kind <= r.kind,
             room: self.ordinary < MOST_ORDINARY,
-            zeros: is_nought(r.second) & ((r.code == 0) & (reserved == 0)),
+            zeros: (r.second == 0) & ((r.code == 0) & (reserved == 0)),
             named: self.names(r),
             apart: r.a != r.b,
             single: !has(seconds, r.b),
             joined: true,
-            bounded: at_most(-FARTHEST, r.first) & at_most(r.first, FARTHEST),
+            bounded: (-FARTHEST <= r.first) & (r.first <= FARTHEST),
         }
     }
 
@@ -192,17 +177,18 @@ impl Seen {
         Kept {
             order: self.kind <= r.kind,
             room: self.waits < MOST_WAITS,
-            zeros: is_nought(r.second) & ((r.code == 0) & (reserved == 0)),
+            zeros: (r.second == 0) & ((r.code == 0) & (reserved == 0)),
             named: self.names(r),
             apart: r.a != r.b,
             single: true,
             joined: has(self.watched, r.b) & (!has(self.watched, r.a) & (r.a != end.from)),
-            bounded: at_most(1, r.first) & at_most(r.first, end.longest),
+            bounded: (1 <= r.first) & (r.first <= end.longest),
         }
     }
 
     // The number of a record, by its kind; `end` is the link that ends at its second point, and `seconds` are the points that
     // ordinary records lead to from its first.
+    #[tactic(auto, unfolding(crate::specs::OneRecord::number_for_with, crate::specs::Inside::broken_of))]
     fn number(self, r: Record, reserved: u8, end: Ending, seconds: u32) -> u32
         ensures { result ≡ number_of (told self end seconds) r reserved }
     {
@@ -236,31 +222,32 @@ impl Seen {
             next.watched = with(self.watched, r.b);
             return next;
         }
-        next.points += one_if(r.kind == POINT);
+        next.points += u32::from(r.kind == POINT);
         next
     }
 
-    // The one-record reader: the record after those seen, tested.
-    pub fn read_one(self, r: Record, reserved: u8, end: Ending, seconds: u32) -> One
+    // The one-record reader: the record after those seen, tested. What is seen with it, or its number.
+    #[tactic(auto, unfolding(crate::specs::Inside::one_of))]
+    pub fn read_one(self, r: Record, reserved: u8, end: Ending, seconds: u32) -> Result<Seen, u32>
         requires { Few self }
         ensures { result ≡ one_of self end seconds r reserved }
     {
         let number = self.number(r, reserved, end, seconds);
         if number == ACCEPTED {
-            One::Good(self.with_record(r))
+            Ok(self.with_record(r))
         } else {
-            One::Bad(number)
+            Err(number)
         }
     }
 }
 
 // Document 01's number for each answer of the one-record reader.
-pub fn number_in(one: One) -> u32
+pub fn number_in(one: Result<Seen, u32>) -> u32
     ensures { result ≡ number_in one }
 {
     match one {
-        One::Good(_) => ACCEPTED,
-        One::Bad(number) => number,
+        Ok(_) => ACCEPTED,
+        Err(number) => number,
     }
 }
 
@@ -282,5 +269,8 @@ pub fn ending_after(r: Record, end: Ending) -> Ending
 pub fn seconds_after(r: Record, seconds: u32) -> u32
     ensures { result ≡ seconds_after r seconds }
 {
-    with_if(r.kind == ORDINARY, seconds, r.b)
+    if r.kind != ORDINARY {
+        return seconds;
+    }
+    with(seconds, r.b)
 }

@@ -9,11 +9,11 @@ ghost use Rattle.std.specs.Prelude.{◌≡◌};
 ghost use Rattle.points.specs.Sets.{members_of, every};
 ghost use Rattle.running.specs.ByTable.{runs_to, any_runs, sound_to, sound_at, not_late_to, not_late_at, set_number_of};
 
-use history::{ROOM, minute_at, wide};
+use history::{ROOM, minute_at};
 use links::{
     BEFORE_CLOCK, End, Links, NOT_IN_TIME, NOT_RUNNING, RUN_OUT, all_in_time, all_running,
 };
-use points::{first, has, without};
+use points::{has, members};
 
 // A link to a point is running: A done, C not.
 fn is_running(done: u32, end: End, p: u8) -> bool
@@ -26,15 +26,11 @@ fn is_running(done: u32, end: End, p: u8) -> bool
 pub fn any_running(links: Links, done: u32) -> bool
     ensures { result ≡ any_runs links done }
 {
-    let mut rest = links.watched;
-    while rest != 0 {
-        let p = first(rest);
-        let at = p as usize;
-        let end = links.ends[at];
+    for p in members(links.watched) {
+        let end = links.ends[p as usize];
         if is_running(done, end, p) {
             return true;
         }
-        rest = without(rest, p);
     }
     false
 }
@@ -46,11 +42,11 @@ fn is_sound_to(clock: u32, done: u32, end: End, a: u32, c: u32, i: u32, j: u32, 
 {
     let started = has(done, end.from);
     let ended = has(done, p);
-    let least = wide(a) + wide(end.shortest);
-    let most = wide(a) + wide(end.longest);
-    let to = wide(c);
+    let least = u64::from(a) + u64::from(end.shortest);
+    let most = u64::from(a) + u64::from(end.longest);
+    let to = u64::from(c);
     ((!ended | (started & ((least <= to) & (to <= most))))
-        & (!(started & !ended) | (wide(clock) <= most)))
+        & (!(started & !ended) | (u64::from(clock) <= most)))
         & (!(started & ended) | (i < j))
 }
 
@@ -64,11 +60,8 @@ pub fn all_sound(
 ) -> bool
     ensures { result ≡ every (sound_at links clock done minutes calls) (members_of links.watched) }
 {
-    let mut rest = links.watched;
-    while rest != 0 {
-        let p = first(rest);
-        let place = p as usize;
-        let end = links.ends[place];
+    for p in members(links.watched) {
+        let end = links.ends[p as usize];
         let a = minute_at(minutes, end.from);
         let c = minute_at(minutes, p);
         let i = minute_at(calls, end.from);
@@ -76,7 +69,6 @@ pub fn all_sound(
         if !is_sound_to(clock, done, end, a, c, i, j, p) {
             return false;
         }
-        rest = without(rest, p);
     }
     true
 }
@@ -85,22 +77,19 @@ pub fn all_sound(
 fn not_late(done: u32, end: End, a: u32, t: u32, set: u32, p: u8) -> bool
     ensures { result ≡ not_late_to done end a t set p }
 {
-    !is_running(done, end, p) | (has(set, p) | (wide(t) <= wide(a) + wide(end.longest)))
+    !is_running(done, end, p)
+        | (has(set, p) | (u64::from(t) <= u64::from(a) + u64::from(end.longest)))
 }
 
 // 27 is not given.
 fn none_late(links: Links, done: u32, minutes: [u32; ROOM], t: u32, set: u32) -> bool
     ensures { result ≡ every (not_late_at links done minutes t set) (members_of links.watched) }
 {
-    let mut rest = links.watched;
-    while rest != 0 {
-        let p = first(rest);
-        let place = p as usize;
-        let end = links.ends[place];
+    for p in members(links.watched) {
+        let end = links.ends[p as usize];
         if !not_late(done, end, minute_at(minutes, end.from), t, set, p) {
             return false;
         }
-        rest = without(rest, p);
     }
     true
 }

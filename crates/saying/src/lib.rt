@@ -49,11 +49,9 @@ fn put_list(
 {
     let count = listed(points);
     let mut end = at;
-    let mut i: u32 = 0;
-    while i < count {
+    for i in 0..count {
         let line = line_at(rows, ponds, reply, i);
         end = put_line(lines, end, line);
-        i += 1;
     }
     end
 }

@@ -8,7 +8,6 @@ use links::Links;
 use places::{ROOM, kept_line};
 use plan::RECORD_BYTES;
 use rows::SHEET;
-use std::num::wrapping_add_u64;
 use stream::fits;
 
 // The most bytes that are made at once: the line of an event or of the plan test, what the board is, a line for each point, and the end.
@@ -68,6 +67,7 @@ pub fn put_events(
     let n = bytes.len() / RECORD_BYTES;
     let mut next = k;
     let mut end = at;
+    // how many were put is answered too, so the count goes on behind the loop, which may stop early
     let mut i: usize = 0;
     while i < n {
         if !fits(lines.len(), end, MOST) {
@@ -77,12 +77,12 @@ pub fn put_events(
         end = put_event(
             full, links, ponds, rows, into, out, ends, &mut *kept, event, next, lines, end,
         );
-        next = wrapping_add_u64(next, 1);
+        next = next.wrapping_add(1);
         i += 1;
     }
     Said {
         used: RECORD_BYTES * i,
-        end: end,
+        end,
         events: next,
     }
 }

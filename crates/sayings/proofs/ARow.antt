@@ -13,8 +13,7 @@ use Rattle.values.specs.Values as values
 use Rattle.values.specs.Values.{same, all_digits, value_from, is_negative, unsigned}
 use Rattle.phrases.specs.Phrases.{cut, filled, uncommented, kind_of, are_points, set_from}
 use Rattle.sayings.specs.Sayings.{Row, bad, good, expected, holds, first_wrong, said_by, row_of, line_row}
-use Rattle.sayings.specs.declared.Said.{Said}
-use Rattle.sayings.specs.declared.Said.TheVariants.{Nothing, Plan, Mark, Event}
+use Rattle.sayings.specs.declared.Said.TheVariants.{Plan, Event}
 
 abbrev line : String → Row
 line t = line_row (ascii t)

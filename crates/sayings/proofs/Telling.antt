@@ -1,29 +1,28 @@
 -- The row that is told by what is kept of a line's words is what the words say. Assumes nothing.
-use mathlib.Core.Path.{◌≡◌, refl, sym, ap, ◌∙◌}
+use mathlib.Core.Path.{◌≡◌, refl, ap, ◌∙◌}
 use mathlib.Core.Bool.{Bool, true, false, not}
 use mathlib.Core.List.{List, [], ◌∷◌}
-use Prim.Native.Nat.{ℕ, zero, suc, ◌+◌, ◌%◌, ◌^◌, ◌≤◌, ◌<◌}
+use Prim.Native.Nat.{ℕ, suc, ◌+◌, ◌^◌, ◌≤◌, ◌<◌}
 use native.Mathlib.Omega.{arith}
 use native.Mathlib.Numerals.{add-one}
 use lib.Dec.{eqb, eqb-suc-suc}
-use lib.ListN.{length, get_or}
-use borrow.Author.Tests.{eq-eqb, ne_eqb, eqb-true, eqb-false}
-use Rattle.std.specs.Prelude.{if◌then◌else◌}
+use lib.ListN.{length, get_or, drop, length-drop}
+use borrow.Author.Tests.{ne_eqb, eqb-true}
+use Rattle.std.proofs.lemmas.Grind.{get_or_after_one}
+use Rattle.std.specs.Prelude.{Ok, Err, if◌then◌else◌}
 use Rattle.numbers.specs.Fits.{All, IsByte}
-use Rattle.values.specs.Inside.{fresh, with_all, number_in, value_in}
+use Rattle.values.specs.Inside.{fresh, with_all, value_in}
 use Rattle.values.proofs.Tells.{tells_all}
 use Rattle.values.proofs.Says as values
 use Rattle.phrases.specs.Inside.{fresh_word, with_bytes, kind_by, point_or_none_by, set_by}
 use Rattle.phrases.specs.declared.Word.{Word}
 use Rattle.phrases.proofs.Saying.{word_seen, says_below, says_value, says_kind_of, says_point_or_none, says_point_or_none_value, says_set, says_set_value}
 use Rattle.sayings.specs.Sayings.{a_point, a_number, a_count, a_point_or_none, a_set, expected, holds, wrong_of, first_of, first_wrong, point_record, link_record, ordinary_record, wait_record, word, said_by}
-use Rattle.sayings.specs.Sayings.{bad, good, unless_wrong, row_of, kind_of, is_number, number_of, value_of, point_or_none, set_of}
-use Rattle.sayings.specs.Inside.{places_of, cell, holds_in, wrong_in, wrong_by, point_in, count_in, said_in, bad_row, good_row, as_told, kind_row, row_by}
-use Rattle.sayings.specs.declared.Places.{Places}
-use Rattle.sayings.specs.declared.Told.{Told}
+use Rattle.sayings.specs.Sayings.{bad, good, unless_wrong, row_of, kind_of, number_of, value_of, point_or_none, set_of}
+use Rattle.sayings.specs.Inside.{cell, holds_in, wrong_in, point_in, count_in, said_in, as_told, kind_row, row_by}
+use Rattle.sayings.specs.Inside as inside
 use Rattle.sayings.specs.declared.Said.{Said}
 use Rattle.sayings.specs.declared.Said.TheVariants.{Plan, Mark, Event}
-use Rattle.sayings.proofs.ARow.{octal}
 
 -- what is kept of a word
 abbrev pub word_of : List ℕ → Word
@@ -72,76 +71,20 @@ module _ (f : List ℕ) (a : All IsByte f) where
 
 -- ---- the first word that is wrong
 
-zero_wrong : (w : Word) → wrong_in 0 w ≡ 0
-zero_wrong w = go (holds_in 0 w)
-  where
-    go : (t : Bool) → ◌≡◌ {A = ℕ} (if t then 0 else 0) 0
-    go true = refl
-    go false = refl
-
-first_zero : (m : ℕ) → first_of m 0 ≡ m
-first_zero m = go (eqb m 0) refl
-  where
-    go : (t : Bool) → eqb m 0 ≡ t → (if t then 0 else m) ≡ m
-    go true e = sym (eqb-true m 0 e)
-    go false e = refl
-
 -- what the cells hold of the words behind the kind word
 abbrev pub Kept : List Word → List (List ℕ) → Type 0
 Kept cells gs = (i : ℕ) → i < length gs → i < 4 → cell (suc i) cells ≡ word_of (get_or gs i [])
 
--- the places of some numbers
-abbrev places_by : List ℕ → Places
-places_by ns =
-    record { count = length ns + 1; first = get_or ns 0 0; second = get_or ns 1 0; third = get_or ns 2 0; fourth = get_or ns 3 0 }
-
--- the chain of the code
-abbrev chain : ℕ → ℕ → ℕ → ℕ → ℕ
-chain a b c d = first_of a (first_of b (first_of c d))
-
-wrong_chain : (p : Places) (cells : List Word) (a b c d : ℕ) → wrong_in p.first (cell 1 cells) ≡ a → wrong_in p.second (cell 2 cells) ≡ b
-    → wrong_in p.third (cell 3 cells) ≡ c → wrong_in p.fourth (cell 4 cells) ≡ d → wrong_by p cells ≡ chain a b c d
-unfolding wrong_by
-wrong_chain p cells a b c d ea eb ec ed = rw (ea, eb, ec, ed)
-
-module _ (cells : List Word) where
-  -- what is wrong at a word that is kept
-  kept_wrong : (n i : ℕ) (f : List ℕ) → All IsByte f → cell i cells ≡ word_of f → wrong_in n (cell i cells) ≡ wrong_of n f
-  kept_wrong n i f a e = rw e (wrong_in_lem f a n)
-
-  wrong_is : (ns : List ℕ) (gs : List (List ℕ)) → All (All IsByte) gs → length gs ≡ length ns → length ns ≤ 4 → Kept cells gs
-      → wrong_by (places_by ns) cells ≡ first_wrong ns gs
-  unfolding first_wrong
-  wrong_is [] [] a l h k = wrong_chain (places_by []) cells 0 0 0 0 (zero_wrong _) (zero_wrong _) (zero_wrong _) (zero_wrong _)
-  wrong_is (m ∷ []) (f ∷ []) a l h k =
-      wrong_chain (places_by (m ∷ [])) cells (wrong_of m f) 0 0 0 (kept_wrong m 1 f a.0 (k 0 (omega arith) (omega arith))) (zero_wrong _) (zero_wrong _) (zero_wrong _)
-  wrong_is (m ∷ n ∷ []) (f ∷ g ∷ []) a l h k =
-      wrong_chain (places_by (m ∷ n ∷ [])) cells (wrong_of m f) (wrong_of n g) 0 0 (kept_wrong m 1 f a.0 (k 0 (omega arith) (omega arith)))
-      (kept_wrong n 2 g a.1.0 (k 1 (omega arith) (omega arith))) (zero_wrong _) (zero_wrong _)
-  wrong_is (m ∷ n ∷ o ∷ []) (f ∷ g ∷ x ∷ []) a l h k =
-      wrong_chain (places_by (m ∷ n ∷ o ∷ [])) cells (wrong_of m f) (wrong_of n g) (wrong_of o x) 0 (kept_wrong m 1 f a.0 (k 0 (omega arith) (omega arith)))
-      (kept_wrong n 2 g a.1.0 (k 1 (omega arith) (omega arith))) (kept_wrong o 3 x a.1.1.0 (k 2 (omega arith) (omega arith))) (zero_wrong _)
-  wrong_is (m ∷ n ∷ o ∷ p ∷ []) (f ∷ g ∷ x ∷ y ∷ []) a l h k =
-      wrong_chain (places_by (m ∷ n ∷ o ∷ p ∷ [])) cells (wrong_of m f) (wrong_of n g) (wrong_of o x) (wrong_of p y) (kept_wrong m 1 f a.0 (k 0 (omega arith) (omega arith)))
-      (kept_wrong n 2 g a.1.0 (k 1 (omega arith) (omega arith))) (kept_wrong o 3 x a.1.1.0 (k 2 (omega arith) (omega arith)))
-      (kept_wrong p 4 y a.1.1.1.0 (k 3 (omega arith) (omega arith)))
-      ∙ ap (λ (z : ℕ). first_of (wrong_of m f) (first_of (wrong_of n g) (first_of (wrong_of o x) z))) (sym (first_zero (wrong_of p y)))
-  wrong_is (m ∷ n ∷ o ∷ p ∷ q ∷ ns) gs a l h k = absurd (omega arith)
-  wrong_is [] (f ∷ gs) a l h k = absurd (omega arith)
-  wrong_is (m ∷ []) [] a l h k = absurd (omega arith)
-  wrong_is (m ∷ []) (f ∷ g ∷ gs) a l h k = absurd (omega arith)
-  wrong_is (m ∷ n ∷ []) [] a l h k = absurd (omega arith)
-  wrong_is (m ∷ n ∷ []) (f ∷ []) a l h k = absurd (omega arith)
-  wrong_is (m ∷ n ∷ []) (f ∷ g ∷ x ∷ gs) a l h k = absurd (omega arith)
-  wrong_is (m ∷ n ∷ o ∷ []) [] a l h k = absurd (omega arith)
-  wrong_is (m ∷ n ∷ o ∷ []) (f ∷ []) a l h k = absurd (omega arith)
-  wrong_is (m ∷ n ∷ o ∷ []) (f ∷ g ∷ []) a l h k = absurd (omega arith)
-  wrong_is (m ∷ n ∷ o ∷ []) (f ∷ g ∷ x ∷ y ∷ gs) a l h k = absurd (omega arith)
-  wrong_is (m ∷ n ∷ o ∷ p ∷ []) [] a l h k = absurd (omega arith)
-  wrong_is (m ∷ n ∷ o ∷ p ∷ []) (f ∷ []) a l h k = absurd (omega arith)
-  wrong_is (m ∷ n ∷ o ∷ p ∷ []) (f ∷ g ∷ []) a l h k = absurd (omega arith)
-  wrong_is (m ∷ n ∷ o ∷ p ∷ []) (f ∷ g ∷ x ∷ []) a l h k = absurd (omega arith)
-  wrong_is (m ∷ n ∷ o ∷ p ∷ []) (f ∷ g ∷ x ∷ y ∷ z ∷ gs) a l h k = absurd (omega arith)
+-- each of the words behind the kind word is kept
+wrong_is : (ns : List ℕ) (gs : List (List ℕ)) (ws : List Word) → All (All IsByte) gs → length gs ≡ length ns → length ns ≤ length ws
+    → ((i : ℕ) → i < length gs → cell i ws ≡ word_of (get_or gs i [])) → inside.first_wrong ns ws ≡ first_wrong ns gs
+unfolding inside.first_wrong first_wrong
+wrong_is [] gs ws a l h k = refl
+wrong_is (n ∷ ns) [] ws a l h k = absurd (omega arith)
+wrong_is (n ∷ ns) (f ∷ gs) [] a l h k = absurd (omega arith)
+wrong_is (n ∷ ns) (f ∷ gs) (w ∷ ws) a l h k =
+    let e : w ≡ word_of f = k 0 (omega arith) in
+    rw (e, wrong_in_lem f a.0 n, wrong_is ns gs ws a.1 (omega arith) (omega arith) (λ i j. k (suc i) (omega arith)))
 
 -- ---- what the words of a good line say
 
@@ -296,26 +239,30 @@ module _ (cells : List Word) where
   same_suc m n = rw (add-one n) (eqb-suc-suc m n)
 
   -- behind the kind word
-  kind_row_lem : (k : ℕ) (gs : List (List ℕ)) → All (All IsByte) gs → Kept cells gs
+  kind_row_lem : (k : ℕ) (gs : List (List ℕ)) → length cells ≡ 6 → All (All IsByte) gs → Kept cells gs
       → kind_row k (suc (length gs)) cells
       ≡ as_told (if eqb k 0 then bad 1 else (if not (eqb (length gs) (length (expected k))) then bad 2 else unless_wrong (first_wrong (expected k) gs) (said_by k gs)))
   unfolding kind_row
-  kind_row_lem k gs a q = rw (same_suc (length gs) (length (expected k))) (go (eqb k 0) (eqb (length gs) (length (expected k))) refl)
+  kind_row_lem k gs size a q = rw (same_suc (length gs) (length (expected k))) (go (eqb k 0) (eqb (length gs) (length (expected k))) refl)
     where
+      behind : (i : ℕ) → cell i (drop 1 cells) ≡ cell (suc i) cells
+      behind i = get_or_after_one cells i _ ∙ ap (λ (j : ℕ). cell j cells) (omega arith)
+
       told : (n : ℕ) → (t : Bool) → eqb n 0 ≡ t → (x y : Said) → (t ≡ true → x ≡ y)
-          → ◌≡◌ {A = Told} (if not t then bad_row n else good_row x) (as_told (if t then good y else bad n))
-      told n true e x y h = ap good_row (h refl)
+          → (if not t then Err n else Ok x) ≡ as_told (if t then good y else bad n)
+      told n true e x y h = ap Ok (h refl)
       told n false e x y h = refl
 
       go : (z t : Bool) → eqb (length gs) (length (expected k)) ≡ t
-          → ◌≡◌ {A = Told}
-          (if z then bad_row 1 else (if not t then bad_row 2 else (if not (eqb (wrong_by (places_of k) cells) 0) then bad_row (wrong_by (places_of k) cells) else good_row (said_in k cells))))
-          (as_told (if z then bad 1 else (if not t then bad 2 else unless_wrong (first_wrong (expected k) gs) (said_by k gs))))
+          → (if z then Err 1 else (if not t then Err 2 else (if not (eqb (inside.first_wrong (expected k) (drop 1 cells)) 0) then Err (inside.first_wrong (expected k) (drop 1 cells)) else Ok (said_in k cells))))
+          ≡ as_told (if z then bad 1 else (if not t then bad 2 else unless_wrong (first_wrong (expected k) gs) (said_by k gs)))
       go true t e = refl
       go false false e = refl
       go false true e =
           let l = eqb-true (length gs) (length (expected k)) e in
-          let w : wrong_by (places_of k) cells ≡ first_wrong (expected k) gs = wrong_is cells (expected k) gs a l (few k).0 q in
+          let few_k = few k in
+          let w : inside.first_wrong (expected k) (drop 1 cells) ≡ first_wrong (expected k) gs =
+          wrong_is (expected k) gs (drop 1 cells) a l (omega (arith, few_k.0, length-drop 1 cells, size)) (λ i h. behind i ∙ q i h (omega (arith, few_k.0))) in
           rw w
           (told (first_wrong (expected k) gs) (eqb (first_wrong (expected k) gs) 0) refl (said_in k cells) (said_by k gs)
           (λ z. said_is k gs a q l (each_holds (expected k) (few k).1 gs (eqb-true (first_wrong (expected k) gs) 0 z))))
@@ -324,9 +271,9 @@ module _ (cells : List Word) where
 abbrev pub Cells : List Word → List (List ℕ) → Type 0
 Cells cells fs = (i : ℕ) → i < length fs → i < 5 → cell i cells ≡ word_of (get_or fs i [])
 
-pub row_is : (cells : List Word) (fs : List (List ℕ)) → All (All IsByte) fs → Cells cells fs → row_by (length fs) cells ≡ as_told (row_of fs)
+pub row_is : (cells : List Word) (fs : List (List ℕ)) → length cells ≡ 6 → All (All IsByte) fs → Cells cells fs → row_by (length fs) cells ≡ as_told (row_of fs)
 unfolding row_by row_of
-row_is cells [] a q = refl
-row_is cells (f ∷ gs) a q =
+row_is cells [] size a q = refl
+row_is cells (f ∷ gs) size a q =
     let k : kind_by (cell 0 cells).seen ≡ kind_of f = rw (q 0 (omega arith) (omega arith)) (kind_in_lem f a.0) in
-    rw (ne_eqb (suc (length gs)) 0 (λ e. omega arith), k) (kind_row_lem cells (kind_of f) gs a.1 (λ i h l. q (suc i) (omega arith) (omega arith)))
+    rw (ne_eqb (suc (length gs)) 0 (λ e. omega arith), k) (kind_row_lem cells (kind_of f) gs size a.1 (λ i h l. q (suc i) (omega arith) (omega arith)))

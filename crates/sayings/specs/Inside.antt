@@ -1,26 +1,23 @@
 -- How the functions read a line's words, by what is kept of each. A reader of the rules can leave this page out. Assumes nothing.
-use Rattle.std.specs.Prelude.{Bool, false, not, List, [], ◌∷◌, ℕ, ◌+◌, ◌%◌, eqb, length, get_or, if◌then◌else◌}
-use Rattle.values.specs.Inside.{number_in, value_in}
+use Rattle.std.specs.Prelude.{Bool, false, not, List, [], ◌∷◌, Result, Ok, Err, ℕ, ◌+◌, ◌%◌, eqb, length, get_or, drop, if◌then◌else◌}
+use Rattle.values.specs.Inside.{below_in, number_in, value_in}
 use Rattle.values.specs.declared.Seen.{Seen}
-use Rattle.phrases.specs.Inside.{below_in, kind_by, point_or_none_in, point_or_none_by, set_in, set_by}
+use Rattle.phrases.specs.Inside.{kind_by, point_or_none_in, point_or_none_by, set_in, set_by}
 use Rattle.phrases.specs.declared.Word.{Word}
-use Rattle.sayings.specs.Sayings.{a_kind, so_many_words, a_point, a_number, a_count, a_point_or_none, expected, first_of}
+use Rattle.sayings.specs.Sayings.{a_kind, so_many_words, a_point, a_number, a_count, a_point_or_none, a_set, expected, first_of}
 use Rattle.sayings.specs.Sayings.{point_record, link_record, ordinary_record, wait_record, Row, bad, good}
-use Rattle.sayings.specs.declared.Places.{Places}
-use Rattle.sayings.specs.declared.Told.{Told}
+use Rattle.sayings.specs.declared.Expected.{Expected}
+use Rattle.sayings.specs.declared.Expected.TheVariants.{Point, Number, Count, PointOrNone, Set}
 use Rattle.sayings.specs.declared.Said.{Said}
 use Rattle.sayings.specs.declared.Said.TheVariants.{Nothing, Plan, Mark, Event}
 
--- how many words a line of the kind has, and what those behind the first are
-abbrev pub places_of : ℕ → Places
-places_of k =
-    record {
-      count = length (expected k) + 1;
-      first = get_or (expected k) 0 0;
-      second = get_or (expected k) 1 0;
-      third = get_or (expected k) 2 0;
-      fourth = get_or (expected k) 3 0;
-    }
+-- the numbers of what is expected of a word
+abbrev pub number_of : Expected → ℕ
+number_of Point = a_point
+number_of Number = a_number
+number_of Count = a_count
+number_of PointOrNone = a_point_or_none
+number_of Set = a_set
 
 -- zeros, as a place past the last of a list reads
 abbrev pub zeros : Seen
@@ -40,10 +37,14 @@ holds_in n w =
 abbrev pub wrong_in : ℕ → Word → ℕ
 wrong_in n w = if holds_in n w then 0 else n
 
-unfoldable pub wrong_by : Places → List Word → ℕ
-wrong_by p cells =
-    first_of (wrong_in p.first (cell 1 cells))
-    (first_of (wrong_in p.second (cell 2 cells)) (first_of (wrong_in p.third (cell 3 cells)) (wrong_in p.fourth (cell 4 cells))))
+-- what is expected at the first word that is wrong, 0 where none is
+unfoldable pub first_wrong : List ℕ → List Word → ℕ
+first_wrong [] ws = 0
+first_wrong (n ∷ ns) [] = 0
+first_wrong (n ∷ ns) (w ∷ ws) = first_of (wrong_in n w) (first_wrong ns ws)
+
+abbrev pub unless_wrong : ℕ → Result (Unit {0}) ℕ
+unless_wrong n = if eqb n 0 then Ok tt else Err n
 
 abbrev pub point_in : Word → ℕ
 point_in w = w.seen.size % 256
@@ -61,24 +62,18 @@ said_in k cells =
     else Event (count_in (cell 1 cells)) (point_or_none_by (cell 2 cells).seen) (set_by (cell 3 cells))))))
 
 -- a row as it is told
-abbrev pub bad_row : ℕ → Told
-bad_row n = record { number = n; said = Nothing }
-
-abbrev pub good_row : Said → Told
-good_row x = record { number = 0; said = x }
-
-abbrev pub as_told : Row → Told
-as_told (bad n) = bad_row n
-as_told (good x) = good_row x
+abbrev pub as_told : Row → Result Said ℕ
+as_told (bad n) = Err n
+as_told (good x) = Ok x
 
 -- the row of a line by what is kept of its words, the first of which names a kind
-unfoldable pub kind_row : ℕ → ℕ → List Word → Told
+unfoldable pub kind_row : ℕ → ℕ → List Word → Result Said ℕ
 kind_row k n cells =
-    if eqb k 0 then bad_row a_kind
-    else (if not (eqb n (places_of k).count) then bad_row so_many_words
-    else (if not (eqb (wrong_by (places_of k) cells) 0) then bad_row (wrong_by (places_of k) cells)
-    else good_row (said_in k cells)))
+    if eqb k 0 then Err a_kind
+    else (if not (eqb n (length (expected k) + 1)) then Err so_many_words
+    else (if not (eqb (first_wrong (expected k) (drop 1 cells)) 0) then Err (first_wrong (expected k) (drop 1 cells))
+    else Ok (said_in k cells)))
 
 -- the row of a line of n words
-unfoldable pub row_by : ℕ → List Word → Told
-row_by n cells = if eqb n 0 then good_row Nothing else kind_row (kind_by (cell 0 cells).seen) n cells
+unfoldable pub row_by : ℕ → List Word → Result Said ℕ
+row_by n cells = if eqb n 0 then Ok Nothing else kind_row (kind_by (cell 0 cells).seen) n cells

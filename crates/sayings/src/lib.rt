@@ -3,35 +3,25 @@
 
 #![tactic(auto)]
 
-ghost use Rattle.std.specs.Prelude.{◌≡◌};
+ghost use Rattle.std.specs.Prelude.{◌≡◌, ◌≤◌, length, map};
 ghost use Rattle.values.specs.Inside.{value_in};
-ghost use Rattle.sayings.specs.Sayings.{first_of, point_record, link_record, ordinary_record, wait_record};
-ghost use Rattle.sayings.specs.Inside.{places_of, cell, holds_in, wrong_in, wrong_by, point_in, count_in, said_in, bad_row, kind_row, row_by};
+ghost use Rattle.phrases.specs.Inside.{kind_number, point_or_none_by, set_by};
+ghost use Rattle.sayings.specs.Sayings.{expected, point_record, link_record, ordinary_record, wait_record};
+ghost use Rattle.sayings.specs.Inside.{number_of, cell, holds_in, first_wrong, unless_wrong, point_in, count_in, said_in, kind_row, row_by};
 ghost use Rattle.sayings.specs.declared.Said.TheVariants.{Event};
-ghost use Rattle.phrases.specs.Inside.{point_or_none_by, set_by};
 
-use phrases::{Word, is_below, is_point_or_none, kind_of, point_or_none};
+use phrases::{Kind, Word, is_point_or_none, kind_of, point_or_none};
 use records::Record;
 
 // Room for what is kept of a line's words: the longest kind has five, its own among them, and any more share the last cell.
 pub const CELLS: usize = 6;
 
-// What was expected, by number; 0 for what is not refused.
+// What was expected, by number: one of the kind words; as many words as the kind has. The others are those of `Expected`.
 pub const A_KIND: u32 = 1;
 
 pub const SO_MANY_WORDS: u32 = 2;
 
-pub const A_POINT: u32 = 3;
-
-pub const A_NUMBER: u32 = 4;
-
-pub const A_COUNT: u32 = 5;
-
-pub const A_POINT_OR_NONE: u32 = 6;
-
-pub const A_SET: u32 = 7;
-
-// The kinds of line.
+// The kinds of a plan's records, as a record has them.
 const POINT: u8 = 1;
 
 const LINK: u8 = 2;
@@ -40,7 +30,15 @@ const ORDINARY: u8 = 3;
 
 const WAIT: u8 = 4;
 
-const MARK: u8 = 5;
+// What is expected of a word.
+#[derive(Clone, Copy)]
+enum Expected {
+    Point,
+    Number,
+    Count,
+    PointOrNone,
+    Set,
+}
 
 // What a line says: nothing where it has no words; a record of a plan; the mark that ends a plan; an event, as its minute, its point
 // and its set.
@@ -52,174 +50,108 @@ pub enum Said {
     Event(u32, u32, u32),
 }
 
-// How many words a line of a kind has, and what is expected of each behind the first; 0 where there is none.
-#[derive(Clone, Copy)]
-struct Places {
-    count: usize,
-    first: u32,
-    second: u32,
-    third: u32,
-    fourth: u32,
+impl Expected {
+    // The number that a line is refused with where a word is not what is expected.
+    fn number(self) -> u32
+        ensures { result ≡ number_of self }
+    {
+        match self {
+            Expected::Point => 3,
+            Expected::Number => 4,
+            Expected::Count => 5,
+            Expected::PointOrNone => 6,
+            Expected::Set => 7,
+        }
+    }
+
+    // The word is what is expected.
+    #[tactic(auto, unfolding(crate::specs::Inside::holds_in))]
+    fn holds(self, w: Word) -> bool
+        ensures { result ≡ holds_in (number_of self) w }
+    {
+        match self {
+            Expected::Point => w.seen.is_below(256),
+            Expected::Number => w.seen.is_number(),
+            Expected::Count => w.seen.is_below(4294967296),
+            Expected::PointOrNone => is_point_or_none(w.seen),
+            Expected::Set => w.is_set(),
+        }
+    }
 }
 
-// What a line says, or the number of what was expected; 0 where it is good.
-#[derive(Clone, Copy)]
-pub struct Told {
-    pub number: u32,
-    pub said: Said,
-}
-
-// The words behind a kind word.
-fn places_of(k: u8) -> Places
-    ensures { result ≡ places_of k }
+// What the words behind a kind word are.
+#[tactic(auto, unfolding(crate::specs::Sayings::expected))]
+fn places_of(kind: Kind) -> &'static [Expected]
+    ensures { map number_of result.now ≡ expected (kind_number kind) }
 {
-    if k == POINT {
-        return Places {
-            count: 3,
-            first: A_POINT,
-            second: A_COUNT,
-            third: 0,
-            fourth: 0,
-        };
-    }
-    if k == LINK {
-        return Places {
-            count: 5,
-            first: A_POINT,
-            second: A_NUMBER,
-            third: A_NUMBER,
-            fourth: A_POINT,
-        };
-    }
-    if k == ORDINARY {
-        return Places {
-            count: 4,
-            first: A_POINT,
-            second: A_NUMBER,
-            third: A_POINT,
-            fourth: 0,
-        };
-    }
-    if k == WAIT {
-        return Places {
-            count: 4,
-            first: A_POINT,
-            second: A_POINT,
-            third: A_NUMBER,
-            fourth: 0,
-        };
-    }
-    if k == MARK {
-        return Places {
-            count: 1,
-            first: 0,
-            second: 0,
-            third: 0,
-            fourth: 0,
-        };
-    }
-    Places {
-        count: 4,
-        first: A_COUNT,
-        second: A_POINT_OR_NONE,
-        third: A_SET,
-        fourth: 0,
+    match kind {
+        Kind::Point => &[Expected::Point, Expected::Count],
+        Kind::Link => &[
+            Expected::Point,
+            Expected::Number,
+            Expected::Number,
+            Expected::Point,
+        ],
+        Kind::Ordinary => &[Expected::Point, Expected::Number, Expected::Point],
+        Kind::Wait => &[Expected::Point, Expected::Point, Expected::Number],
+        Kind::Mark => &[],
+        Kind::Event => &[Expected::Count, Expected::PointOrNone, Expected::Set],
     }
 }
 
-// The word is what is expected.
-fn holds(place: u32, w: Word) -> bool
-    ensures { result ≡ holds_in place w }
+// Each word is what is expected; else the number of what is expected at the first that is not.
+fn all_hold(places: &[Expected], words: &[Word]) -> Result<(), u32>
+    requires { length places.now ≤ length words.now }
+    ensures { result ≡ unless_wrong (first_wrong (map number_of places.now) words.now) }
 {
-    let s = w.seen;
-    if place == A_POINT {
-        return is_below(s, 256);
+    for (i, &place) in places.iter().enumerate() {
+        if !place.holds(words[i]) {
+            return Err(place.number());
+        }
     }
-    if place == A_NUMBER {
-        return s.is_number();
-    }
-    if place == A_COUNT {
-        return is_below(s, 4294967296);
-    }
-    if place == A_POINT_OR_NONE {
-        return is_point_or_none(s);
-    }
-    w.is_set()
-}
-
-fn wrong(place: u32, w: Word) -> u32
-    ensures { result ≡ wrong_in place w }
-{
-    if holds(place, w) { 0 } else { place }
-}
-
-fn first_of(m: u32, n: u32) -> u32
-    ensures { result ≡ first_of m n }
-{
-    if m == 0 { n } else { m }
-}
-
-// What is expected at the first word that is wrong.
-fn wrong_by(p: Places, cells: [Word; CELLS]) -> u32
-    ensures { result ≡ wrong_by p cells }
-{
-    let a = cells[1];
-    let b = cells[2];
-    let c = cells[3];
-    let d = cells[4];
-    let rest = first_of(wrong(p.third, c), wrong(p.fourth, d));
-    first_of(wrong(p.first, a), first_of(wrong(p.second, b), rest))
+    Ok(())
 }
 
 fn point_in(w: Word) -> u8
     ensures { result ≡ point_in w }
 {
-    let s = w.seen;
-    s.point()
+    w.seen.point()
 }
 
 fn number_in(w: Word) -> i32
     ensures { result ≡ value_in w.seen }
 {
-    let s = w.seen;
-    s.number()
+    w.seen.number()
 }
 
 fn count_in(w: Word) -> u32
     ensures { result ≡ count_in w }
 {
-    let s = w.seen;
-    (s.size % 4294967296) as u32
+    (w.seen.size % 4294967296) as u32
 }
 
 fn point_by(cells: [Word; CELLS]) -> Record
     ensures { result ≡ point_record (point_in (cell 1 cells)) (count_in (cell 2 cells)) }
 {
-    let number = cells[1];
-    let pond = cells[2];
     Record {
         kind: POINT,
-        a: point_in(number),
+        a: point_in(cells[1]),
         b: 0,
         first: 0,
         second: 0,
-        code: count_in(pond),
+        code: count_in(cells[2]),
     }
 }
 
 fn link_by(cells: [Word; CELLS]) -> Record
     ensures { result ≡ link_record (point_in (cell 1 cells)) (value_in (cell 2 cells).seen) (value_in (cell 3 cells).seen) (point_in (cell 4 cells)) }
 {
-    let a = cells[1];
-    let x = cells[2];
-    let y = cells[3];
-    let c = cells[4];
     Record {
         kind: LINK,
-        a: point_in(a),
-        b: point_in(c),
-        first: number_in(x),
-        second: number_in(y),
+        a: point_in(cells[1]),
+        b: point_in(cells[4]),
+        first: number_in(cells[2]),
+        second: number_in(cells[3]),
         code: 0,
     }
 }
@@ -227,14 +159,11 @@ fn link_by(cells: [Word; CELLS]) -> Record
 fn ordinary_by(cells: [Word; CELLS]) -> Record
     ensures { result ≡ ordinary_record (point_in (cell 1 cells)) (value_in (cell 2 cells).seen) (point_in (cell 3 cells)) }
 {
-    let x = cells[1];
-    let d = cells[2];
-    let y = cells[3];
     Record {
         kind: ORDINARY,
-        a: point_in(x),
-        b: point_in(y),
-        first: number_in(d),
+        a: point_in(cells[1]),
+        b: point_in(cells[3]),
+        first: number_in(cells[2]),
         second: 0,
         code: 0,
     }
@@ -243,14 +172,11 @@ fn ordinary_by(cells: [Word; CELLS]) -> Record
 fn wait_by(cells: [Word; CELLS]) -> Record
     ensures { result ≡ wait_record (point_in (cell 1 cells)) (point_in (cell 2 cells)) (value_in (cell 3 cells).seen) }
 {
-    let v = cells[1];
-    let c = cells[2];
-    let w = cells[3];
     Record {
         kind: WAIT,
-        a: point_in(v),
-        b: point_in(c),
-        first: number_in(w),
+        a: point_in(cells[1]),
+        b: point_in(cells[2]),
+        first: number_in(cells[3]),
         second: 0,
         code: 0,
     }
@@ -259,75 +185,50 @@ fn wait_by(cells: [Word; CELLS]) -> Record
 fn event_by(cells: [Word; CELLS]) -> Said
     ensures { result ≡ Event (count_in (cell 1 cells)) (point_or_none_by (cell 2 cells).seen) (set_by (cell 3 cells)) }
 {
-    let minute = cells[1];
-    let point = cells[2];
-    let set = cells[3];
-    let p = point.seen;
-    Said::Event(count_in(minute), point_or_none(p), set.set())
+    Said::Event(
+        count_in(cells[1]),
+        point_or_none(cells[2].seen),
+        cells[3].set(),
+    )
 }
 
 // What the words of a good line say.
-fn said_by(k: u8, cells: [Word; CELLS]) -> Said
-    ensures { result ≡ said_in k cells }
+#[tactic(auto, unfolding(crate::specs::Inside::said_in))]
+fn said_by(kind: Kind, cells: [Word; CELLS]) -> Said
+    ensures { result ≡ said_in (kind_number kind) cells }
 {
-    if k == POINT {
-        return Said::Plan(point_by(cells));
-    }
-    if k == LINK {
-        return Said::Plan(link_by(cells));
-    }
-    if k == ORDINARY {
-        return Said::Plan(ordinary_by(cells));
-    }
-    if k == WAIT {
-        return Said::Plan(wait_by(cells));
-    }
-    if k == MARK {
-        return Said::Mark;
-    }
-    event_by(cells)
-}
-
-fn bad(number: u32) -> Told
-    ensures { result ≡ bad_row number }
-{
-    let none = Said::Nothing;
-    Told {
-        number: number,
-        said: none,
+    match kind {
+        Kind::Point => Said::Plan(point_by(cells)),
+        Kind::Link => Said::Plan(link_by(cells)),
+        Kind::Ordinary => Said::Plan(ordinary_by(cells)),
+        Kind::Wait => Said::Plan(wait_by(cells)),
+        Kind::Mark => Said::Mark,
+        Kind::Event => event_by(cells),
     }
 }
 
-// A line of so many words, the first of which names the kind k.
-fn kind_row(k: u8, words: usize, cells: [Word; CELLS]) -> Told
-    ensures { result ≡ kind_row k words cells }
+// A line of so many words, the first of which names the kind.
+fn kind_row(kind: Kind, words: usize, cells: [Word; CELLS]) -> Result<Said, u32>
+    ensures { result ≡ kind_row (kind_number kind) words cells }
 {
-    if k == 0 {
-        return bad(A_KIND);
+    let places = places_of(kind);
+    if words != places.len() + 1 {
+        return Err(SO_MANY_WORDS);
     }
-    let p = places_of(k);
-    if words != p.count {
-        return bad(SO_MANY_WORDS);
-    }
-    let n = wrong_by(p, cells);
-    if n != 0 {
-        return bad(n);
-    }
-    let said = said_by(k, cells);
-    Told {
-        number: 0,
-        said: said,
-    }
+    all_hold(places, &cells[1..])?;
+    Ok(said_by(kind, cells))
 }
 
-// A line of so many words, the first five of which are kept in the first cells.
-pub fn row_by(words: usize, cells: [Word; CELLS]) -> Told
+// A line of so many words, the first five of which are kept in the first cells: what it says, or the number of what was expected.
+#[tactic(auto, unfolding(crate::specs::Inside::row_by, crate::specs::Inside::kind_row))]
+pub fn row_by(words: usize, cells: [Word; CELLS]) -> Result<Said, u32>
     ensures { result ≡ row_by words cells }
 {
     if words == 0 {
-        return bad(0);
+        return Ok(Said::Nothing);
     }
-    let first = cells[0];
-    let s = first.seen;
-    kind_row(kind_of(s), words, cells)
+    let Some(kind) = kind_of(cells[0].seen) else {
+        return Err(A_KIND);
+    };
+    kind_row(kind, words, cells)
 }

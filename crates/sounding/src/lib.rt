@@ -10,7 +10,7 @@ ghost use Rattle.history.specs.History.{each, in_bounds, earlier};
 ghost use Rattle.sounding.specs.ByLinks.{sound_else, sound_by};
 
 use calls::is_numbered;
-use history::{Ask, ROOM, all_fit, every_record, first_points, last_done};
+use history::{ROOM, all_earlier, all_fit, all_in_bounds, first_points, last_done};
 use links::Links;
 use lowhigh::FARTHEST;
 use plan::Plan;
@@ -52,8 +52,7 @@ pub fn by_records(
         calls,
         first_points(links.points),
         links.watched,
-    ) & (every_record(plan, clock, done, minutes, Ask::InBounds)
-        & every_record(plan, 0, done, calls, Ask::Earlier))
+    ) & (all_in_bounds(plan, clock, done, minutes) & all_earlier(plan, done, calls))
 }
 
 // By the links alone.

@@ -46,10 +46,8 @@ fn starts_of(sheet: &[u32; SHEET], m: usize) -> [u8; SIDE]
     ensures { StartsIn sheet.now m result }
 {
     let mut starts = [MOST; SIDE];
-    let mut left = m;
-    while 0 < left {
-        left -= 1;
-        let row = row_at(sheet, left);
+    for q in (0..m).rev() {
+        let row = row_at(sheet, q);
         let c = place(row.over) as usize;
         starts[c] = pick(row.kind == LINK_ROW, place(row.from), starts[c]);
     }
@@ -149,10 +147,8 @@ fn aim_of(kept: &[u32; KEPT], starts: &[u8; SIDE], n: u32) -> Least
         minute: NEVER,
         point: NO_POINT,
     };
-    let mut q: u8 = 0;
-    while q < MOST {
+    for q in 0..MOST {
         found = nearer(found, low_by(kept, starts, n, q), q);
-        q += 1;
     }
     found
 }
@@ -165,10 +161,8 @@ fn end_of(kept: &[u32; KEPT], starts: &[u8; SIDE], durations: &[u64; SIDE]) -> L
         minute: NEVER,
         point: NO_POINT,
     };
-    let mut c: u8 = 0;
-    while c < MOST {
+    for c in 0..MOST {
         found = nearer(found, end_by(kept, starts, durations, c), c);
-        c += 1;
     }
     found
 }
@@ -178,11 +172,9 @@ fn ending(kept: &[u32; KEPT], starts: &[u8; SIDE], durations: &[u64; SIDE], t: u
     ensures { result ≡ set_of (ends_then kept.now starts.now durations.now t) (from 0 most_points) }
 {
     let mut set: u32 = 0;
-    let mut left: u8 = MOST;
-    while 0 < left {
-        left -= 1;
-        let end = end_by(kept, starts, durations, left);
-        set = with_if((end == t) & (t < NEVER), set, left);
+    for c in (0..MOST).rev() {
+        let end = end_by(kept, starts, durations, c);
+        set = with_if((end == t) & (t < NEVER), set, c);
     }
     set
 }

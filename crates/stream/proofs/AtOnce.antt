@@ -5,14 +5,15 @@ use Rattle.plan.specs.APlan.{records_of}
 use Rattle.plan.specs.ReplyNumbers.{check_of}
 use Rattle.board.specs.Boards.{sound}
 use Rattle.board.specs.Streams.{events_in, many_in, said, said_numbers, said_of, board_after_all, take_all_of, said_all_of}
-use Rattle.stream.specs.Sheets.{playing, played_of, next_of}
+use Rattle.stream.specs.Sheets.{playing, played_of, next_at, next_of}
 use Rattle.stream.specs.Many.{one_by_one, said_along, AtOnce}
 use Rattle.stream.specs.declared.sheet.Sheet.{Sheet}
+use Rattle.stream.specs.declared.sheet.Stage.{Stage}
 
 -- a record more is an event
 event_next : (s : Sheet) (e front : List ℕ) → s.stage ≡ playing → next_of s e front ≡ played_of s e
 unfolding next_of
-event_next s e front h = rw (ne_eqb s.stage 0 (λ z. omega arith), eq-eqb s.stage playing h)
+event_next s e front h = ap (λ (t : Stage). next_at t s e front) h
 
 module _ (front : List ℕ) where
   board_along : (es : List (List ℕ)) (s : Sheet) → s.stage ≡ playing → board_after_all s.plan s.taken.board es ≡ (one_by_one s front es).taken.board

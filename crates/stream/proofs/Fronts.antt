@@ -5,8 +5,7 @@ use mathlib.Core.Logic.{by_cases}
 use native.Mathlib.Decide.{dec_lt}
 use Rattle.std.specs.Prelude.{if◌then◌else◌}
 use Rattle.plan.specs.Limits.{most_records, record_bytes}
-use Rattle.plan.specs.ReplyNumbers.{read_of, read_with, refused, refusal}
-use Rattle.plan.specs.declared.Reading.{Reading}
+use Rattle.plan.specs.ReplyNumbers.{Reading, read_of, read_with, refused, refusal}
 use Rattle.stream.specs.Sheets.{shown, read_front}
 
 -- one record more than a plan may have

@@ -3,7 +3,7 @@ ghost use Rattle.std.specs.Prelude.{◌≡◌};
 ghost use Rattle.stream.specs.Sheets.{shown, read_front};
 
 use buffers::within;
-use plan::{MOST_RECORDS, RECORD_BYTES, Reading};
+use plan::{MOST_RECORDS, Plan, RECORD_BYTES, Refusal};
 
 // So many bytes of a plan part are read: all of it, or, where it is longer than any plan, one record more than a plan may
 // have and what its length leaves over.
@@ -19,7 +19,7 @@ fn shown(length: u64) -> usize
 }
 
 // Reads a plan part of so many bytes, the first of which stand at the front of the buffer.
-pub fn read_front(length: u64, front: &[u8]) -> Reading
+pub fn read_front(length: u64, front: &[u8]) -> Result<Plan, Refusal>
     ensures { result ≡ read_front length front.now }
 {
     let n = within(shown(length), front);

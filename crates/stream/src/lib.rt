@@ -10,4 +10,4 @@ mod sheet;
 
 pub use buffers::{append, behind, fits, within};
 pub use front::read_front;
-pub use sheet::{BEGUN, PLANNING, PLAYING, REFUSED, Sheet, TAIL, is_mark};
+pub use sheet::{News, Sheet, Stage, is_mark};

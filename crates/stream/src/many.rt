@@ -3,11 +3,10 @@ ghost use Rattle.std.specs.Prelude.{◌≡◌};
 ghost use Rattle.board.specs.Streams.{said_all_of};
 ghost use Rattle.stream.specs.Many.{all_played_of};
 
-use crate::sheet::{NOTHING, Sheet};
+use crate::sheet::{News, Sheet};
 use board::SAID;
 use events::fewer;
 use plan::RECORD_BYTES;
-use std::num::wrapping_add_u64;
 
 impl Sheet {
     // The whole events of some bytes one after the other, as far as there is room to say something of each.
@@ -22,11 +21,11 @@ impl Sheet {
         let reply = board.take_all(plan, events, room);
         Sheet {
             stage: self.stage,
-            news: NOTHING,
+            news: News::Nothing,
             length: self.length,
-            events: wrapping_add_u64(self.events, n as u64),
+            events: self.events.wrapping_add(n as u64),
             last: self.last,
-            plan: plan,
+            plan,
             taken: reply,
         }
     }

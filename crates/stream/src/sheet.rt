@@ -2,35 +2,34 @@
 // to print. The bytes of the plan part are not kept: they stand at the front of the buffer that the input is read into,
 // which has room for more than any plan.
 ghost use Rattle.std.specs.Prelude.{◌≡◌, ◌≤◌};
-ghost use Rattle.stream.specs.Sheets.{start, turned, is_mark, begun_of, longer, played_of, quiet, next_of, ended_of};
+ghost use Rattle.stream.specs.Sheets.{start, turned, is_mark, begun_of, longer, played_of, quiet, tail, next_of, ended_of};
 
 use crate::front::read_front;
 use board::Taken;
-use plan::{ACCEPTED, Plan, RECORD_BYTES};
-use std::num::wrapping_add_u64;
+use plan::{ACCEPTED, Plan, RECORD_BYTES, empty};
 
 // Still in the plan part; among the events; over, since the plan is refused.
-pub const PLANNING: u8 = 0;
-
-pub const PLAYING: u8 = 1;
-
-const OVER: u8 = 2;
+#[derive(Clone, Copy, PartialEq, Eq)]
+pub enum Stage {
+    Planning,
+    Playing,
+    Over,
+}
 
 // What there is to print: nothing; a refused plan; a plan that is read; an event; an unfinished last record.
-pub(crate) const NOTHING: u8 = 0;
-
-pub const REFUSED: u8 = 1;
-
-pub const BEGUN: u8 = 2;
-
-const EVENT: u8 = 3;
-
-pub const TAIL: u8 = 4;
+#[derive(Clone, Copy, PartialEq, Eq)]
+pub enum News {
+    Nothing,
+    Refused,
+    Begun,
+    Event,
+    Tail,
+}
 
 #[derive(Clone, Copy)]
 pub struct Sheet {
-    pub stage: u8,
-    pub news: u8,
+    pub stage: Stage,
+    pub news: News,
     // the bytes of the plan part
     pub length: u64,
     // how many events there were, and the number of the last
@@ -44,14 +43,7 @@ pub struct Sheet {
 pub fn is_mark(bytes: &[u8]) -> bool
     ensures { result ≡ is_mark bytes.now }
 {
-    let mut i: usize = 0;
-    while i < bytes.len() {
-        if bytes[i] != 255 {
-            return false;
-        }
-        i += 1;
-    }
-    true
+    bytes.iter().all(|&b| b == 255)
 }
 
 impl Sheet {
@@ -59,37 +51,36 @@ impl Sheet {
     pub fn new() -> Sheet
         ensures { result ≡ start }
     {
-        let reading = plan_file::read(b"");
-        let plan = reading.plan;
+        let plan = empty(0);
         let board = board::fresh();
         let taken = Taken {
             number: ACCEPTED,
             place: 0,
-            board: board,
+            board,
         };
         Sheet {
-            stage: PLANNING,
-            news: NOTHING,
+            stage: Stage::Planning,
+            news: News::Nothing,
             length: 0,
             events: 0,
             last: 0,
-            plan: plan,
-            taken: taken,
+            plan,
+            taken,
         }
     }
 
     // The sheet at another stage, with other news, plan and reply.
-    fn turned(self, stage: u8, news: u8, plan: Plan, taken: Taken) -> Sheet
+    fn turned(self, stage: Stage, news: News, plan: Plan, taken: Taken) -> Sheet
         ensures { result ≡ turned self stage news plan taken }
     {
         Sheet {
-            stage: stage,
-            news: news,
+            stage,
+            news,
             length: self.length,
             events: self.events,
             last: self.last,
-            plan: plan,
-            taken: taken,
+            plan,
+            taken,
         }
     }
 
@@ -97,20 +88,20 @@ impl Sheet {
     fn begun(self, front: &[u8]) -> Sheet
         ensures { result ≡ begun_of self front.now }
     {
-        let reading = read_front(self.length, front);
         let before = self.taken;
-        if reading.number == ACCEPTED {
-            let plan = reading.plan;
-            return self.turned(PLAYING, BEGUN, plan, before);
+        match read_front(self.length, front) {
+            Ok(plan) => self.turned(Stage::Playing, News::Begun, plan, before),
+            Err(refusal) => {
+                let plan = self.plan;
+                let board = before.board;
+                let taken = Taken {
+                    number: refusal.number,
+                    place: refusal.place,
+                    board,
+                };
+                self.turned(Stage::Over, News::Refused, plan, taken)
+            }
         }
-        let plan = self.plan;
-        let board = before.board;
-        let taken = Taken {
-            number: reading.number,
-            place: reading.place,
-            board: board,
-        };
-        self.turned(OVER, REFUSED, plan, taken)
     }
 
     // So many bytes more of the plan part.
@@ -118,8 +109,8 @@ impl Sheet {
         ensures { result ≡ longer self n }
     {
         let mut sheet = self;
-        sheet.news = NOTHING;
-        sheet.length = wrapping_add_u64(self.length, n);
+        sheet.news = News::Nothing;
+        sheet.length = self.length.wrapping_add(n);
         sheet
     }
 
@@ -133,11 +124,11 @@ impl Sheet {
         let reply = board.take(plan, event);
         Sheet {
             stage: self.stage,
-            news: EVENT,
+            news: News::Event,
             length: self.length,
-            events: wrapping_add_u64(self.events, 1),
+            events: self.events.wrapping_add(1),
             last: self.events,
-            plan: plan,
+            plan,
             taken: reply,
         }
     }
@@ -147,7 +138,16 @@ impl Sheet {
         ensures { result ≡ quiet self }
     {
         let mut sheet = self;
-        sheet.news = NOTHING;
+        sheet.news = News::Nothing;
+        sheet
+    }
+
+    // An unfinished last record.
+    fn tailed(self) -> Sheet
+        ensures { result ≡ turned self self.stage tail self.plan self.taken }
+    {
+        let mut sheet = self;
+        sheet.news = News::Tail;
         sheet
     }
 
@@ -155,31 +155,23 @@ impl Sheet {
     pub fn next(self, bytes: &[u8], front: &[u8]) -> Sheet
         ensures { result ≡ next_of self bytes.now front.now }
     {
-        if self.stage == PLANNING {
-            if is_mark(bytes) {
-                return self.begun(front);
-            }
-            return self.longer(RECORD_BYTES as u64);
+        match self.stage {
+            Stage::Planning if is_mark(bytes) => self.begun(front),
+            Stage::Planning => self.longer(RECORD_BYTES as u64),
+            Stage::Playing => self.played(bytes),
+            Stage::Over => self.quiet(),
         }
-        if self.stage == PLAYING {
-            return self.played(bytes);
-        }
-        self.quiet()
     }
 
     // The input has ended, with so many bytes of an unfinished record.
     pub fn ended(self, left: u64, front: &[u8]) -> Sheet
         ensures { result ≡ ended_of self left front.now }
     {
-        if self.stage == PLANNING {
-            let whole = self.longer(left);
-            return whole.begun(front);
+        match self.stage {
+            Stage::Planning => self.longer(left).begun(front),
+            Stage::Playing if left != 0 => self.tailed(),
+            Stage::Playing => self.quiet(),
+            Stage::Over => self.quiet(),
         }
-        if (left != 0) & (self.stage == PLAYING) {
-            let plan = self.plan;
-            let taken = self.taken;
-            return self.turned(self.stage, TAIL, plan, taken);
-        }
-        self.quiet()
     }
 }

@@ -1,7 +1,8 @@
 -- The loop that closes a table. Assumes nothing.
 use mathlib.Core.Path.{◌≡◌, subst}
 use mathlib.Core.List.{List}
-use mathlib.Core.Bool.{true, false}
+use mathlib.Core.Bool.{Bool, true, false}
+use Rattle.std.specs.Bool.{MatchBool}
 use Prim.Native.Nat.{ℕ, ◌+◌, ◌<◌, ◌≤◌}
 use native.Mathlib.Omega.{arith}
 use Rattle.tables.specs.Tables.{Closing}
@@ -40,7 +41,8 @@ module _ {n k : ℕ} {t₀ t : List ℕ} (s : Shutting n t₀ k t) where
   pub negative : (x : ℕ) → x < n → raw t x x < middle → CloseDone n t₀ t false
   negative x h l = record { sound = s.sound; closed = below s.so_far h (omega (arith, wide_in (raw t x x) (omega arith))) }
 
-  pub ended : {i : ℕ} → n ≤ k → n ≤ i → ((x : ℕ) → x < i → middle ≤ raw t x x) → CloseDone n t₀ t true
-  ended h l c =
+  pub ended : n ≤ k → (r : Bool) → MatchBool r ((x : ℕ) → x < n → middle ≤ raw t x x) ((x : ℕ) × (x < n) × (raw t x x < middle)) → CloseDone n t₀ t r
+  ended h true c =
       let e : k ≡ n = omega (arith, s.many) in
-      record { sound = s.sound; closed = calm (subst (λ (m : ℕ). Closing n (at t₀) m (at t)) e s.so_far) (λ x i. wide_mono middle (raw t x x) (c x (omega arith))) }
+      record { sound = s.sound; closed = calm (subst (λ (m : ℕ). Closing n (at t₀) m (at t)) e s.so_far) (λ x i. wide_mono middle (raw t x x) (c x i)) }
+  ended h false c = negative c.0 c.1 c.2

@@ -19,9 +19,6 @@ use Rattle.tables.specs.Steps.{Offered, Offers, OfferedOf, takes_of, PartOf}
 pub made : {b : Bool} {i j u d : ℕ} {t t' : List ℕ} → b ≡ true → Offered i j u d t t' → OfferedOf b i j u d t t'
 made e o = record { sound = o.sound; does = rw e o }
 
-pub not_made : {b : Bool} {i j u d : ℕ} {t : List ℕ} → b ≡ false → Sound t → OfferedOf b i j u d t t
-not_made e h = record { sound = h; does = rw e refl }
-
 -- the edges E, and one more
 pub data Plus (E : ℕ → ℕ → ℕ → ℕ → Type 0) (i j v c X Y u d : ℕ) : Type 0 where
   old : E X Y u d → Plus E i j v c X Y u d

@@ -8,32 +8,37 @@ use native.Mathlib.Decide.{dec_lt, ℕ_discrete}
 use lib.ListN.{length, get_or, set, replicate, length-set, length-replicate, get_or-replicate}
 use lib.Seq.{get_or-set_same, get_or-set_other}
 use Rattle.tables.specs.Tables.{side, room, Best}
-use Rattle.tables.specs.Entries.{wide, middle, nowhere, floor, ceiling, low, high, far, raw, at, Lower, Lesser, Near, Sound, Lifted, LiftedRow, RowReady, RowDone, StepReady, StepDone, PassReady, PassDone}
+use Rattle.tables.specs.Entries.{wide, middle, nowhere, floor, ceiling, low, high, far, raw, at, Lower, Lesser, Near, Sound, Lifted, RowBy, LiftedRow, RowReady, RowDone, StepReady, StepDone, PassReady, PassDone}
 use Rattle.tables.proofs.Widths.{wide_best}
 
--- ---- a row lifted
+-- ---- a row made of another
 
-pub record Lifting (n k : ℕ) (t : List ℕ) (j : ℕ) (l : List ℕ) : Type 0 where
+pub record Making (R : ℕ → ℕ → Type 0) (n k : ℕ) (t : List ℕ) (j : ℕ) (l : List ℕ) : Type 0 where
   pub long : length l ≡ side
   pub within : j ≤ n
   pub few : n ≤ side
-  pub each : (y : ℕ) → y < j → Lifted (raw t k y) (get_or l y 0)
+  pub each : (y : ℕ) → y < j → R (raw t k y) (get_or l y 0)
   pub past : (y : ℕ) → j ≤ y → y < side → get_or l y 0 ≡ far
 
-pub lift_start : (n k : ℕ) (t : List ℕ) → n ≤ side → Lifting n k t 0 (replicate side far)
-lift_start n k t few = record { long = length-replicate {A = ℕ} side far; within = omega arith; few = few; each = λ y h. absurd (omega arith); past = λ y h l. get_or-replicate {A = ℕ} side y far 0 l }
+module _ (R : ℕ → ℕ → Type 0) (n k : ℕ) (t : List ℕ) where
+  pub make_start : n ≤ side → Making R n k t 0 (replicate side far)
+  make_start few = record { long = length-replicate {A = ℕ} side far; within = omega arith; few = few; each = λ y h. absurd (omega arith); past = λ y h l. get_or-replicate {A = ℕ} side y far 0 l }
 
-pub lift_turn : (n k : ℕ) (t : List ℕ) (j : ℕ) (l : List ℕ) (v : ℕ) → j < n → Lifting n k t j l → Lifted (raw t k j) v → Lifting n k t (j + 1) (set l j v)
-lift_turn n k t j l v h g e = record { long = length-set l j v ∙ g.long; within = omega arith; few = g.few; each = each; past = λ y a b. get_or-set_other l j y v 0 (omega arith) ∙ g.past y (omega arith) b }
-  where
-    each : (y : ℕ) → y < j + 1 → Lifted (raw t k y) (get_or (set l j v) y 0)
-    each y a = elim (ℕ_discrete y j) [
-      | yes d ↦ rw (d, get_or-set_same l j v 0 (omega (arith, g.long, g.few))) e
-      | no d ↦ rw (get_or-set_other l j y v 0 d) (g.each y (omega arith))
-    ]
+  pub make_turn : (j : ℕ) (l : List ℕ) (v : ℕ) → j < n → Making R n k t j l → R (raw t k j) v → Making R n k t (j + 1) (set l j v)
+  make_turn j l v h g e = record { long = length-set l j v ∙ g.long; within = omega arith; few = g.few; each = each; past = λ y a b. get_or-set_other l j y v 0 (omega arith) ∙ g.past y (omega arith) b }
+    where
+      each : (y : ℕ) → y < j + 1 → R (raw t k y) (get_or (set l j v) y 0)
+      each y a = elim (ℕ_discrete y j) [
+        | yes d ↦ rw (d, get_or-set_same l j v 0 (omega (arith, g.long, g.few))) e
+        | no d ↦ rw (get_or-set_other l j y v 0 d) (g.each y (omega arith))
+      ]
 
-pub lift_ended : (n k : ℕ) (t : List ℕ) (j : ℕ) (l : List ℕ) → n ≤ j → Lifting n k t j l → LiftedRow n k t l
-lift_ended n k t j l h g = record { long = g.long; each = λ y a. g.each y (omega arith); past = λ y a b. g.past y (omega (arith, g.within)) b }
+  pub make_ended : (j : ℕ) (l : List ℕ) → n ≤ j → Making R n k t j l → RowBy R n k t l
+  make_ended j l h g = record { long = g.long; each = λ y a. g.each y (omega arith); past = λ y a b. g.past y (omega (arith, g.within)) b }
+
+-- each number by a relation that follows
+pub row_by_as : {R S : ℕ → ℕ → Type 0} {n k : ℕ} {t l : List ℕ} → ((v r : ℕ) → R v r → S v r) → RowBy R n k t l → RowBy S n k t l
+row_by_as w g = record { long = g.long; each = λ j h. w _ _ (g.each j h); past = g.past }
 
 -- ---- one row
 
@@ -78,59 +83,6 @@ module _ (i b : ℕ) (l t₀ : List ℕ) (j : ℕ) (t : List ℕ) (ready : RowRe
       let v = ready.first in
       let e = ready.row in
       (omega arith, omega arith, g.sound.most (i * side + j) (omega arith))
-
-  pub row_turn : (r : ℕ) → j < side → Lesser (get_or l j 0 + b - middle) (raw t i j) r → InRow i b l t₀ (j + 1) (set t (i * side + j) r)
-  row_turn r h m = record { sound = stored t (i * side + j) r inside g.sound (omega (arith, m.second, sums h)) bottom roof; within = omega arith; done = done; rest = rest }
-    where
-      inside : i * side + j < room
-      inside = omega (arith, ready.row)
-
-      bottom : floor ≤ r
-      bottom =
-          let u = ready.second j h in
-          let v = ready.first in
-          let w = g.sound.least (i * side + j) inside in
-          ⊎_elim (λ d. omega arith) (λ d. omega arith) m.from
-
-      -- a sum with far is not below nowhere
-      roof : r < nowhere → r ≤ ceiling
-      roof e =
-          let v = ready.first in
-          ⊎_elim
-          (λ d. ⊎_elim (λ k. omega arith) (λ k. absurd (omega arith)) (ready.third j h))
-          (λ d. let w : raw t i j < nowhere = omega arith in omega (arith, g.sound.gap (i * side + j) inside w))
-          m.from
-
-      same : raw t i j ≡ raw t₀ i j
-      same = g.rest i j h (inr (omega arith))
-
-      here : Lower (raw t₀ i j) b (get_or l j 0) r
-      here =
-          let u = sums h in
-          let e = same in
-          let f = m.first in
-          let o = m.second in
-          record { old = omega arith; sum = omega arith; from = ⊎_elim (λ d. inr (omega arith)) (λ d. inl (omega arith)) m.from }
-
-      done : (y : ℕ) → y < j + 1 → Lower (raw t₀ i y) b (get_or l y 0) (raw (set t (i * side + j) r) i y)
-      done y a = elim (ℕ_discrete y j) [
-        | yes e ↦ rw (e, get_or-set_same t (i * side + j) r 0 (omega (arith, g.sound.long))) here
-        | no e ↦ rw (get_or-set_other t (i * side + j) (i * side + y) r 0 (omega arith)) (g.done y (omega arith))
-      ]
-
-      apart : (x y : ℕ) → y < side → (x ≢ i) ⊎ (j + 1 ≤ y) → x * side + y ≢ i * side + j
-      apart x y a (inl h') = omega arith
-      apart x y a (inr h') = omega arith
-
-      less : (x y : ℕ) → (x ≢ i) ⊎ (j + 1 ≤ y) → (x ≢ i) ⊎ (j ≤ y)
-      less x y (inl h') = inl h'
-      less x y (inr h') = inr (omega arith)
-
-      rest : (x y : ℕ) → y < side → (x ≢ i) ⊎ (j + 1 ≤ y) → raw (set t (i * side + j) r) x y ≡ raw t₀ x y
-      rest x y a d = get_or-set_other t (i * side + j) (x * side + y) r 0 (apart x y a d) ∙ g.rest x y a (less x y d)
-
-pub row_ended : (i b j : ℕ) (l t₀ t : List ℕ) → side ≤ j → InRow i b l t₀ j t → RowDone i b l t₀ t
-row_ended i b j l t₀ t h g = record { sound = g.sound; cell = λ y a. g.done y (omega arith); rest = λ x y d a. g.rest x y a (inl d) }
 
 -- ---- the pass
 

@@ -71,11 +71,15 @@ pub record Lifted (v l : ℕ) : Type 0 where
   pub same : v < nowhere → l ≡ v
   pub gone : nowhere ≤ v → l ≡ far
 
--- l is the row k of t, lifted, and far past the points
-pub record LiftedRow (n k : ℕ) (t l : List ℕ) : Type 0 where
+-- l is the row k of t, each number v of which became some r with R v r, and far past the points
+pub record RowBy (R : ℕ → ℕ → Type 0) (n k : ℕ) (t l : List ℕ) : Type 0 where
   pub long : length l ≡ side
-  pub each : (j : ℕ) → j < n → Lifted (raw t k j) (get_or l j 0)
+  pub each : (j : ℕ) → j < n → R (raw t k j) (get_or l j 0)
   pub past : (j : ℕ) → n ≤ j → j < side → get_or l j 0 ≡ far
+
+-- l is the row k of t, lifted, and far past the points
+abbrev pub LiftedRow : ℕ → ℕ → List ℕ → List ℕ → Type 0
+LiftedRow = RowBy Lifted
 
 -- the row and the column of k can be added
 pub record Tame (n k : ℕ) (t : List ℕ) : Type 0 where

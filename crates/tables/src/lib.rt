@@ -5,4 +5,4 @@
 
 mod table;
 
-pub use table::{BIAS, FAR, NONE, Part, ROOM, SIDE, begin, close, lesser, offer_of};
+pub use table::{BIAS, FAR, NONE, Part, ROOM, SIDE, begin, close, lesser, offer_of, row_by};

@@ -1,9 +1,9 @@
 // Tables of 32 by 32 distances, each a number of 32 bits with a bias, and how one is closed: a pass for each point, in place, four
 // entries at a time. The sums stay in range, since a point that is below zero from itself to itself ends the passes. A table is lent by
 // the test, which keeps two.
-ghost use Rattle.std.specs.Prelude.{◌≡◌, ◌≤◌, ◌<◌, length, replicate};
+ghost use Rattle.std.specs.Prelude.{◌≡◌, ℕ, ◌≤◌, ◌<◌, MatchBool, length, replicate};
 ghost use Rattle.tables.specs.Tables.{side, room};
-ghost use Rattle.tables.specs.Entries.{Lesser, Lifted, LiftedRow, RowReady, RowDone, StepReady, StepDone, PassReady, PassDone, CloseReady, CloseDone, small, nowhere};
+ghost use Rattle.tables.specs.Entries.{Lesser, Lifted, RowBy, RowReady, RowDone, StepReady, StepDone, PassReady, PassDone, CloseReady, CloseDone, raw, middle, small, nowhere};
 ghost use Rattle.tables.specs.Steps.{OfferReady, Offered, takes_of, OfferedOf, Begun};
 
 use plan::MOST_POINTS;
@@ -46,15 +46,17 @@ fn lifted(v: u32) -> u32
     if v < NONE { v } else { FAR }
 }
 
-// Row `k`, lifted. It is an array of its own, so that the compiler knows that no store to the table changes it.
-fn lift(t: &[u32; ROOM], n: usize, k: usize) -> [u32; SIDE]
-    requires { (length t.now ≡ room) × (n ≤ side) × (k < n) }
-    ensures { LiftedRow n k t.now result }
+// Row `k`, each number of which becomes what `f` makes of it. It is an array of its own, so that the compiler knows that no store to the
+// table changes it.
+pub fn row_by<F: Fn(u32) -> u32>(t: &[u32; ROOM], n: usize, k: usize, f: F) -> [u32; SIDE]
+    requires room { (length t.now ≡ room) × (n ≤ side) × (k < n) }
+    requires each { (j : ℕ) → j < n → F.pre f (raw t.now k j) }
+    ensures { RowBy (F.post f) n k t.now result }
 {
     let at = k * SIDE;
     let mut l = [FAR; SIDE];
     for j in 0..n {
-        l[j] = lifted(t[at + j]);
+        l[j] = f(t[at + j]);
     }
     l
 }
@@ -86,10 +88,18 @@ fn pass(t: &mut [u32; ROOM], n: usize, k: usize)
     requires { PassReady n k t.old }
     ensures { PassDone n k t.old t.new }
 {
-    let l = lift(&*t, n, k);
+    let l = row_by(&*t, n, k, lifted);
     for i in 0..n {
         step(&mut *t, &l, i, k);
     }
+}
+
+// Whether no point is below zero from itself to itself.
+fn is_level(t: &[u32; ROOM], n: usize) -> bool
+    requires { (length t.now ≡ room) × (n ≤ side) }
+    ensures { MatchBool result ((x : ℕ) → x < n → middle ≤ raw t.now x x) ((x : ℕ) × (x < n) × (raw t.now x x < middle)) }
+{
+    (0..n).all(|i| BIAS <= t[i * SIDE + i])
 }
 
 // Closes the table of `n` points, or answers `false` where some point is below zero from itself to itself. As long as none
@@ -104,12 +114,7 @@ pub fn close(t: &mut [u32; ROOM], n: usize) -> bool
         }
         pass(&mut *t, n, k);
     }
-    for i in 0..n {
-        if t[i * SIDE + i] < BIAS {
-            return false;
-        }
-    }
-    true
+    is_level(&*t, n)
 }
 
 // An edge from `i` to `j` of weight `up` less `down` is offered to the table.

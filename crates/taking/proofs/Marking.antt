@@ -4,8 +4,8 @@ use mathlib.Core.List.{List, [], ◌∷◌, ◌++◌}
 use Prim.Native.Nat.{ℕ, ◌≤◌}
 use lib.ListN.{length, set}
 use lib.Seq.{set_out}
-use Rattle.points.specs.Sets.{members_of, with_of}
-use Rattle.points.proofs.Laws.{Turn, members_empty, with_past}
+use Rattle.points.specs.Sets.{with_of}
+use Rattle.points.proofs.Laws.{with_past}
 use Rattle.taking.specs.Steps.{marked_by}
 use Rattle.taking.specs.declared.Marks.{Marks}
 
@@ -13,11 +13,11 @@ abbrev marked : ℕ → ℕ → ℕ → Marks → Marks
 marked t n p m = record { done = with_of m.done p; minutes = set m.minutes p t; calls = set m.calls p n }
 
 module _ (t n : ℕ) where
-  pub marks_turn : (s p rest : ℕ) → Turn s p rest → (m : Marks) → marked_by t n (members_of rest) (marked t n p m) ≡ marked_by t n (members_of s) m
-  marks_turn s p rest u m = rw u.members
+  pub marks_more : {p : ℕ} {left rest : List ℕ} → left ≡ p ∷ rest → (m : Marks) → marked_by t n rest (marked t n p m) ≡ marked_by t n left m
+  marks_more e m = rw e
 
-  pub marks_end : (m : Marks) → m ≡ marked_by t n (members_of 0) m
-  marks_end m = rw members_empty
+  pub marks_none : {left : List ℕ} → left ≡ [] → (m : Marks) → m ≡ marked_by t n left m
+  marks_none e m = rw e
 
   pub marks_append : (ps qs : List ℕ) (m : Marks) → marked_by t n qs (marked_by t n ps m) ≡ marked_by t n (ps ++ qs) m
   marks_append [] qs m = refl

@@ -11,10 +11,10 @@ ghost use Rattle.taking.specs.Steps.{marked_by, points_of, next_of, step_by, Set
 use events::{Event, NO_POINT, event_in};
 use history::{ROOM, last_done};
 use links::Links;
-use lowhigh::{NEVER, lesser};
+use lowhigh::NEVER;
 use plan::ACCEPTED;
 use planless::number_from;
-use points::{MOST, first, with, without};
+use points::{MOST, members, with};
 use windows::Windows;
 
 // The done points, a minute for each point, and the number of the event that did it.
@@ -26,6 +26,7 @@ pub struct Marks {
 }
 
 // What an event does: a reply number with the record that it is about, the clock and the marks after it.
+// What a refusal hands back is part of the answer, as in `Taken`: so no Result.
 #[derive(Clone, Copy)]
 pub struct Step {
     pub number: u32,
@@ -41,19 +42,16 @@ fn mark_set(marks: Marks, set: u32, t: u32, n: u32) -> Marks
     let mut minutes = marks.minutes;
     let mut calls = marks.calls;
     let mut done = marks.done;
-    let mut rest = set;
-    while rest != 0 {
-        let p = first(rest);
+    for p in members(set) {
         let place = p as usize;
         minutes[place] = t;
         calls[place] = n;
         done = with(done, p);
-        rest = without(rest, p);
     }
     Marks {
-        done: done,
-        minutes: minutes,
-        calls: calls,
+        done,
+        minutes,
+        calls,
     }
 }
 
@@ -69,8 +67,8 @@ fn mark(marks: Marks, p: u8, t: u32, n: u32) -> Marks
         calls[place] = n;
         return Marks {
             done: with(marks.done, p),
-            minutes: minutes,
-            calls: calls,
+            minutes,
+            calls,
         };
     }
     marks
@@ -93,7 +91,7 @@ fn next_call(marks: Marks) -> u32
     ensures { result ≡ next_of marks }
 {
     let calls = marks.calls;
-    lesser(last_done(marks.done, calls), NEVER - 1) + 1
+    last_done(marks.done, calls).min(NEVER - 1) + 1
 }
 
 // One event: what it does, or a number with the record beside it and everything as it was.
@@ -107,8 +105,8 @@ pub fn step_from(links: Links, clock: u32, marks: Marks, w: Windows, event: &[u8
         return Step {
             number: found.number,
             place: found.place,
-            clock: clock,
-            marks: marks,
+            clock,
+            marks,
         };
     }
     let e = event_in(event);

@@ -1,4 +1,3 @@
 -- The modules of proofs that belong to no one function.
 mod ACase
-mod Signs
 mod Spelling

@@ -116,8 +116,7 @@ pub fn board_line(board: Board, reply: Reply) -> Line
 {
     let clock = board.clock;
     let ones = points::count(board.done);
-    let outcome = reply.outcome;
-    match outcome {
+    match reply.outcome {
         Outcome::Finished => state(BOARD, clock, ones, FINISHED),
         Outcome::Stuck => state(BOARD, clock, ones, STUCK),
         Outcome::Waiting => state(BOARD, clock, ones, WAITING),
@@ -131,8 +130,7 @@ pub fn board_line(board: Board, reply: Reply) -> Line
 pub fn point_line(point: u32, pond: u32, place: Place, reason: Record) -> Line
     ensures { result ≡ point_line point pond place reason }
 {
-    let said = place.state;
-    match said {
+    match place.state {
         State::Done(minute) => state_at(POINT, point, pond, DONE, minute),
         State::Watched => state(POINT, point, pond, WATCHED),
         State::Shut(n) => shut_line(point, pond, n, reason),
@@ -164,12 +162,9 @@ pub fn end_line(plan: Plan, board: Board) -> Line
     ensures { result ≡ end_line plan board }
 {
     let reply = replies::reply_of(plan, board);
-    let outcome = reply.outcome;
-    match outcome {
+    match reply.outcome {
         Outcome::Finished => verdict_line(verdict::verdict_of(plan, board)),
         Outcome::Stuck => two(END, STUCK),
-        Outcome::Waiting => two(END, OPEN),
-        Outcome::Offers => two(END, OPEN),
-        Outcome::Refused(_, _) => two(END, OPEN),
+        Outcome::Waiting | Outcome::Offers | Outcome::Refused(_, _) => two(END, OPEN),
     }
 }

@@ -1,12 +1,12 @@
 -- The plan test's answer, a verdict and the worst minute as numbers in a lent room: what is answered, and what the room holds then. A
 -- refusal leaves the room as it was. Assumes nothing.
-use Rattle.std.specs.Prelude.{List, [], ◌∷◌, ℕ}
+use Rattle.std.specs.Prelude.{Result, Ok, Err, List, [], ◌∷◌, ℕ}
 use Rattle.vee.specs.declared.Answer.{Answer}
 use Rattle.vee.specs.declared.Answer.TheVariants as answer
 use Rattle.verdict.specs.declared.Verdict.{Verdict}
 use Rattle.verdict.specs.declared.Verdict.TheVariants as verdict
-use Rattle.worst.specs.declared.Worst.{Worst}
-use Rattle.worst.specs.declared.Worst.TheVariants as worst
+use Rattle.plan.specs.declared.Refusal.{Refusal}
+use Rattle.worst.specs.WorstMinute.{Found}
 use Rattle.halves.specs.Answers.{answer_of}
 
 -- ---- the plan test: yes with the projections tried, or a cycle, or a pair, each with the projection's number
@@ -37,10 +37,10 @@ verdict_room (verdict.Broken i) room = 1 ∷ i ∷ []
 
 -- ---- the worst finishing minute, and the projection that reaches it
 
-abbrev pub worst_answer : Worst → ℕ
-worst_answer (worst.Refused n i) = answer_of n i
-worst_answer (worst.At t i) = 0
+abbrev pub worst_answer : Result Found Refusal → ℕ
+worst_answer (Err x) = answer_of x.number x.place
+worst_answer (Ok found) = 0
 
-abbrev pub worst_room : Worst → List ℕ → List ℕ
-worst_room (worst.Refused n i) room = room
-worst_room (worst.At t i) room = t ∷ i ∷ []
+abbrev pub worst_room : Result Found Refusal → List ℕ → List ℕ
+worst_room (Err x) room = room
+worst_room (Ok found) room = found.minute ∷ found.projection ∷ []

@@ -7,9 +7,10 @@ ghost use Rattle.std.specs.Prelude.{◌≡◌, [], ◌∷◌};
 ghost use Rattle.told.specs.Told.{test_answer, test_room, verdict_answer, verdict_room, worst_answer, worst_room};
 
 use halves::answer;
+use plan::Refusal;
 use vee::Answer;
 use verdict::Verdict;
-use worst::Worst;
+use worst::Found;
 
 // Two numbers into a room, and 0.
 fn two(room: &mut [u32; 2], a: u32, b: u32) -> u64
@@ -55,12 +56,12 @@ pub fn tell_verdict(found: Verdict, room: &mut [u32; 2]) -> u64
 }
 
 // The worst finishing minute, and the projection that reaches it.
-pub fn tell_worst(found: Worst, room: &mut [u32; 2]) -> u64
+pub fn tell_worst(found: Result<Found, Refusal>, room: &mut [u32; 2]) -> u64
     ensures reply { result ≡ worst_answer found }
     ensures room { room.new ≡ worst_room found room.old }
 {
     match found {
-        Worst::Refused(number, place) => answer(number, place),
-        Worst::At(minute, projection) => two(room, minute, projection),
+        Err(refusal) => answer(refusal.number, refusal.place),
+        Ok(found) => two(room, found.minute, found.projection),
     }
 }

@@ -12,7 +12,7 @@ ghost use Rattle.machine.specs.Feeds.{Turned};
 use engine::{KEPT, LIST};
 use feeding::put_last;
 use machine::{Stage, plan_turn, stands};
-use plan::ACCEPTED;
+use plan::{ACCEPTED, plan_in};
 use rows::SHEET;
 use saying::put_events;
 use stream::read_front;
@@ -46,7 +46,7 @@ pub fn turn(
     }
     if over {
         let again = read_front(stage.part, &*front);
-        let plan = again.plan;
+        let plan = plan_in(again);
         let end = put_last(over, stage.number, plan, &*kept, piece.len(), lines, 0);
         return stands(stage, stage.events, piece.len(), end);
     }

@@ -1,6 +1,5 @@
 -- The modules of proofs that belong to no one function. Other crates cite the ones that are `pub`.
 mod ACase
-mod Answers
 pub mod Tests
 pub mod Words
 pub mod Tells

@@ -33,6 +33,10 @@ with_all s (c ∷ f) = with_all (with s c) f
 abbrev pub word_in : ℕ → ℕ → Seen → Bool
 word_in n w s = eqb s.count n && eqb s.word w
 
+-- a number below n
+abbrev pub below_in : ℕ → Seen → Bool
+below_in n s = not (eqb s.count 0) && ((s.digits && not s.minus) && ltb s.size n)
+
 unfoldable pub kind_in : Seen → ℕ
 kind_in s =
     if word_in 5 482905517684 s then 1

@@ -4,13 +4,12 @@
 
 #![tactic(auto)]
 
-ghost use Rattle.std.specs.Prelude.{◌≡◌, ◌+◌, ◌-◌, ◌%◌, ◌≤◌, min};
-ghost use Rattle.values.specs.Values.{is_digit, is_capital};
-ghost use Rattle.values.specs.Inside.{fresh, with, kind_in, decimal_in, point_in, number_in, value_in, shaped_in, code_in, pond_in};
+ghost use Rattle.std.specs.Prelude.{◌≡◌, ◌-◌, ◌%◌, ◌≤◌};
+ghost use Rattle.values.specs.Inside.{fresh, with, word_in, below_in, kind_in, decimal_in, point_in, number_in, value_in, shaped_in, code_in, pond_in};
 
 use numbers::signed;
 
-const MINUS: u8 = 45;
+const MINUS: u8 = b'-';
 
 // The kind words, their letters as one number to the base 256: point, link, ordinary, wait.
 const POINT_WORD: u64 = 482905517684;
@@ -35,44 +34,6 @@ pub struct Seen {
     pub size: u64,
 }
 
-fn is_digit(c: u8) -> bool
-    ensures { result ≡ is_digit c }
-{
-    (48 <= c) & (c <= 57)
-}
-
-fn is_capital(c: u8) -> bool
-    ensures { result ≡ is_capital c }
-{
-    (65 <= c) & (c <= 90)
-}
-
-fn wide(c: u8) -> u64
-    ensures { (result ≡ c) × (result ≤ 255) }
-{
-    c as u64
-}
-
-// How far x is past `least`; 0 where it is not.
-fn over(x: u64, least: u64) -> u64
-    ensures { result ≡ x - least }
-{
-    if x < least { 0 } else { x - least }
-}
-
-fn at_most(x: u64, most: u64) -> u64
-    ensures { result ≡ min x most }
-{
-    if x < most { x } else { most }
-}
-
-// One more, and 9 for any more.
-fn counted(n: u32) -> u32
-    ensures { result ≡ min (n + 1) 9 }
-{
-    if n < 9 { n + 1 } else { 9 }
-}
-
 impl Seen {
     pub fn none() -> Self
         ensures { result ≡ fresh }
@@ -87,33 +48,49 @@ impl Seen {
     }
 
     // With a byte more.
+    #[tactic(auto, unfolding(crate::specs::Inside::with))]
     pub fn with(self, c: u8) -> Seen
         ensures { result ≡ with self c }
     {
         let leads = (self.count == 0) & (c == MINUS);
         Seen {
-            count: counted(self.count),
-            word: self.word % 72057594037927936 * 256 + wide(c),
+            count: self.count.saturating_add(1).min(9),
+            word: self.word % 72057594037927936 * 256 + u64::from(c),
             minus: self.minus | leads,
-            digits: self.digits & (is_digit(c) | leads),
-            size: 10 * at_most(self.size, TOO_LARGE) + over(wide(c), 48),
+            digits: self.digits & (c.is_ascii_digit() | leads),
+            size: 10 * self.size.min(TOO_LARGE) + u64::from(c.saturating_sub(b'0')),
         }
     }
 
+    // The field has so many letters, and they are these: as one number to the base 256, the first letter highest.
+    pub fn is_word(self, letters: u32, word: u64) -> bool
+        ensures { result ≡ word_in letters word self }
+    {
+        (self.count == letters) & (self.word == word)
+    }
+
+    // Decimal digits, at least one, of a number below n.
+    pub fn is_below(self, n: u64) -> bool
+        ensures { result ≡ below_in n self }
+    {
+        (self.count != 0) & ((self.digits & !self.minus) & (self.size < n))
+    }
+
     // The kind that the field names, and 0 where it names none.
+    #[tactic(auto, unfolding(crate::specs::Inside::kind_in))]
     pub fn kind(self) -> u8
         ensures { result ≡ kind_in self }
     {
-        if (self.count == 5) & (self.word == POINT_WORD) {
+        if self.is_word(5, POINT_WORD) {
             return 1;
         }
-        if (self.count == 4) & (self.word == LINK_WORD) {
+        if self.is_word(4, LINK_WORD) {
             return 2;
         }
-        if (self.count == 8) & (self.word == ORDINARY_WORD) {
+        if self.is_word(8, ORDINARY_WORD) {
             return 3;
         }
-        if (self.count == 4) & (self.word == WAIT_WORD) {
+        if self.is_word(4, WAIT_WORD) {
             return 4;
         }
         0
@@ -127,6 +104,7 @@ impl Seen {
     }
 
     // A number that a byte holds.
+    #[tactic(auto, unfolding(crate::specs::Inside::point_in))]
     pub fn is_point(self) -> bool
         ensures { result ≡ point_in self }
     {
@@ -141,6 +119,7 @@ impl Seen {
     }
 
     // A number that 32 signed bits hold.
+    #[tactic(auto, unfolding(crate::specs::Inside::number_in))]
     pub fn is_number(self) -> bool
         ensures { result ≡ number_in self }
     {
@@ -148,6 +127,7 @@ impl Seen {
     }
 
     // The number in 32 signed bits.
+    #[tactic(auto, unfolding(crate::specs::Inside::value_in))]
     pub fn number(self) -> i32
         ensures { result ≡ value_in self }
     {
@@ -159,15 +139,16 @@ impl Seen {
     }
 
     // Two capital letters and four digits.
+    #[tactic(auto, unfolding(crate::specs::Inside::shaped_in))]
     fn is_shaped(self) -> bool
         ensures { result ≡ shaped_in self }
     {
         let w = self.word;
-        let letters = is_capital((w / 256 / 256 / 256 / 256 / 256 % 256) as u8)
-            & is_capital((w / 256 / 256 / 256 / 256 % 256) as u8);
-        let digits = is_digit((w / 256 / 256 / 256 % 256) as u8)
-            & (is_digit((w / 256 / 256 % 256) as u8)
-                & (is_digit((w / 256 % 256) as u8) & is_digit((w % 256) as u8)));
+        let letters = ((w / 256 / 256 / 256 / 256 / 256 % 256) as u8).is_ascii_uppercase()
+            & ((w / 256 / 256 / 256 / 256 % 256) as u8).is_ascii_uppercase();
+        let digits = ((w / 256 / 256 / 256 % 256) as u8).is_ascii_digit()
+            & (((w / 256 / 256 % 256) as u8).is_ascii_digit()
+                & (((w / 256 % 256) as u8).is_ascii_digit() & ((w % 256) as u8).is_ascii_digit()));
         (self.count == 6) & (letters & digits)
     }
 
@@ -179,6 +160,7 @@ impl Seen {
     }
 
     // The pond code's number.
+    #[tactic(auto, unfolding(crate::specs::Inside::pond_in))]
     pub fn code(self) -> u32
         ensures { result ≡ pond_in self }
     {
@@ -199,12 +181,12 @@ impl Seen {
 fn letter(w: u64) -> u32
     ensures { (result ≡ w % 256 - 65) × (result ≤ 190) }
 {
-    over(w % 256, 65) as u32
+    (w % 256).saturating_sub(65) as u32
 }
 
 // The last byte of a word as a digit.
 fn digit(w: u64) -> u32
     ensures { (result ≡ w % 256 - 48) × (result ≤ 207) }
 {
-    over(w % 256, 48) as u32
+    (w % 256).saturating_sub(48) as u32
 }

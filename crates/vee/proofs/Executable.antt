@@ -23,8 +23,7 @@ use Rattle.vee.specs.declared.Answer.{Answer}
 use Rattle.vee.specs.declared.Answer.TheVariants as answer
 use Rattle.tables.specs.declared.table.Part.{Part}
 use Rattle.tables.specs.declared.table.Part.TheVariants.{All, Falling, Rising}
-use Rattle.pairs.specs.declared.Pair.{Pair}
-use Rattle.pairs.specs.declared.Pair.TheVariants.{None, At}
+use Rattle.std.specs.Prelude.{Option, None, Some}
 use Rattle.tables.specs.Tables.{Table, bias, none, half, side, Best, Passed, Closing, Closed, Within, Near}
 use Rattle.tables.specs.Tables.Closing.{first as at_first_lem, next}
 use Rattle.tables.specs.Tables.Closed.{calm, below}
@@ -212,12 +211,12 @@ module _ (n : ℕ) (d g r : Rows) where
   in_row X = among n (misses n d g r X)
 
   pair_is : FirstPair n (Met n (entry d) (entry g) (entry r)) (Missed n (entry d) (entry g) (entry r)) (pair_of n (misses n d g r))
-  pair_is = by_test (FirstPair n (Met n (entry d) (entry g) (entry r)) (Missed n (entry d) (entry g) (entry r))) (ltb (first n in_row) n) (At (first n in_row) (first n (misses n d g r (first n in_row)))) None some none
+  pair_is = by_test (FirstPair n (Met n (entry d) (entry g) (entry r)) (Missed n (entry d) (entry g) (entry r))) (ltb (first n in_row) n) (Some (first n in_row, first n (misses n d g r (first n in_row)))) None some none
     where
       row : (X Y : ℕ) → X < first n in_row → Y < n → Met n (entry d) (entry g) (entry r) X Y
       row X Y l h = is_met X Y (none_among n (misses n d g r X) (none_before n in_row X l) Y h)
 
-      some : ltb (first n in_row) n ≡ true → FirstPair n (Met n (entry d) (entry g) (entry r)) (Missed n (entry d) (entry g) (entry r)) (At (first n in_row) (first n (misses n d g r (first n in_row))))
+      some : ltb (first n in_row) n ≡ true → FirstPair n (Met n (entry d) (entry g) (entry r)) (Missed n (entry d) (entry g) (entry r)) (Some (first n in_row, first n (misses n d g r (first n in_row))))
       some e =
           let X = first n in_row in
           let Y = first n (misses n d g r X) in
@@ -275,9 +274,9 @@ module _ (n : ℕ) (less : n ≤ side) (es : List Arc) (small : Small n es) wher
       (λ e. has_cycle_lem (cycle_part All e))
       (λ e. found (all_consistent (calm_part All e).1) _ (pair_is n (closed n All es) (closed n Falling es) (closed n Rising es)))
     where
-      found : Consistent (In es) → (x : Pair) → FirstPair n (Met n (entry (closed n All es)) (entry (closed n Falling es)) (entry (closed n Rising es))) (Missed n (entry (closed n All es)) (entry (closed n Falling es)) (entry (closed n Rising es))) x → JudgedOf (In es) i (answer_of i x)
+      found : Consistent (In es) → (x : Option (ℕ × ℕ)) → FirstPair n (Met n (entry (closed n All es)) (entry (closed n Falling es)) (entry (closed n Rising es))) (Missed n (entry (closed n All es)) (entry (closed n Falling es)) (entry (closed n Rising es))) x → JudgedOf (In es) i (answer_of i x)
       found c None f = is_good (good_by (In es) n inside c _ _ (fines c) (bads c) f)
-      found c (At X Y) f = has_pair (pair_by (In es) n inside c _ _ (fines c) (bads c) f)
+      found c (Some p) f = has_pair (pair_by (In es) n inside c _ _ (fines c) (bads c) f)
 
 -- the same edges are judged the same
 same_judged : {E F : ℕ → ℕ → ℕ → ℕ → Type 0} {i : ℕ} {a : Answer} → ((X Y u d : ℕ) → E X Y u d → F X Y u d) → ((X Y u d : ℕ) → F X Y u d → E X Y u d) → JudgedOf E i a → JudgedOf F i a

@@ -1,6 +1,6 @@
 -- Document 01, "Verdict and plan test": the test of a plan, computed. A projection has three tables of distances: of all its
 -- edges, of the negative ones and of the others. Each is closed by a pass for each point. Assumes nothing.
-use Rattle.std.specs.Prelude.{Bool, true, false, not, ◌&&◌, List, [], ◌∷◌, ◌++◌, ℕ, zero, suc, min, ◌+◌, ◌-◌, eqb, ltb, leb, get_or, if◌then◌else◌}
+use Rattle.std.specs.Prelude.{Bool, true, false, not, ◌&&◌, List, [], ◌∷◌, ◌++◌, ℕ, zero, suc, min, ◌+◌, ◌-◌, eqb, ltb, leb, get_or, if◌then◌else◌, Option, None, Some}
 use Rattle.plan.specs.APlan.{link, ordinary, wait, is, points, link_to, gap_of, records_of}
 use Rattle.plan.specs.ReplyNumbers.{check_of}
 use Rattle.records.specs.declared.Record.{Record}
@@ -9,8 +9,6 @@ use Rattle.vee.specs.declared.Answer.{Answer}
 use Rattle.vee.specs.declared.Answer.TheVariants as answer
 use Rattle.tables.specs.declared.table.Part.{Part}
 use Rattle.tables.specs.declared.table.Part.TheVariants.{All, Falling, Rising}
-use Rattle.pairs.specs.declared.Pair.{Pair}
-use Rattle.pairs.specs.declared.Pair.TheVariants.{None, At}
 use Rattle.tables.specs.Tables.{Table, bias, none}
 use Rattle.tables.specs.Steps.{takes_of}
 use Rattle.rows.specs.Sheet.{by}
@@ -117,12 +115,12 @@ abbrev pub misses : ℕ → Rows → Rows → Rows → ℕ → ℕ → Bool
 misses n d g r X Y = ltb (entry d X Y) none && not (among n (λ M. is_way (entry g X M) (entry r M Y) (entry d X Y)))
 
 -- the first such pair, X slowest
-abbrev pub pair_of : ℕ → (ℕ → ℕ → Bool) → Pair
-pair_of n bad = let X = first n (λ X. among n (bad X)) in if ltb X n then At X (first n (bad X)) else None
+abbrev pub pair_of : ℕ → (ℕ → ℕ → Bool) → Option (ℕ × ℕ)
+pair_of n bad = let X = first n (λ X. among n (bad X)) in if ltb X n then Some (X, first n (bad X)) else None
 
-abbrev pub answer_of : ℕ → Pair → Answer
+abbrev pub answer_of : ℕ → Option (ℕ × ℕ) → Answer
 answer_of i None = answer.Yes (i + 1)
-answer_of i (At X Y) = answer.Pair i X Y
+answer_of i (Some p) = answer.Pair i p.0 p.1
 
 -- what is found of the projection number i, by its edges: a cycle, a pair, or nothing
 unfoldable pub judge_of : ℕ → ℕ → List Arc → Answer

@@ -8,12 +8,15 @@ ghost use Rattle.std.specs.Prelude.{◌≡◌};
 
 use plan::{ACCEPTED, Plan, check, links_of, points_of};
 use rows::{SHEET, lay_out};
-use walk::{MOST_PROJECTIONS, projections, walk_all};
+use walk::{MOST_PROJECTIONS, walk_all};
 
 mod walk;
 
+pub use walk::projections;
+
 // What the test answers: the plan is refused, by number and place; it passes, with the number of projections tried; or
 // the number of the first projection that fails, with a cycle or its first bad pair.
+// Four outcomes, each with its own values: so no Result.
 #[derive(Clone, Copy)]
 pub enum Answer {
     Refused(u32, u32),

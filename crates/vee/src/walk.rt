@@ -6,7 +6,7 @@ ghost use Rattle.vee.specs.Walked.{found_as, WalkReady, Walked, RowsReady, Count
 
 use crate::Answer;
 use projection::{Finding, judge};
-use rows::{SHEET, index, row_at};
+use rows::{SHEET, row_at};
 use tables::{NONE, ROOM, SIDE};
 
 // The most projections that are tested.
@@ -55,11 +55,9 @@ fn walk(
         return answer_of(number, judged);
     }
     let row = row_at(sheet, past - ahead);
-    let over = index(row.over);
-    let longest = row.second;
-    let mut p = row.first;
+    let over = row.over as usize;
     let mut next = number;
-    while p <= longest {
+    for p in row.first..row.second + 1 {
         let chosen = lasting(durations, over, p);
         let found = walk(
             ahead - 1,
@@ -76,7 +74,6 @@ fn walk(
             return found;
         };
         next = k;
-        p += 1;
     }
     Answer::Yes(next)
 }
@@ -100,7 +97,7 @@ pub(crate) fn walk_all(
 
 // How many projections the links of the `links` rows before row `past` have; once there are too many, some number that is
 // too many.
-pub(crate) fn projections(sheet: &[u32; SHEET], past: usize, links: usize) -> u64
+pub fn projections(sheet: &[u32; SHEET], past: usize, links: usize) -> u64
     requires { RowsReady sheet.now past links }
     ensures { CountedAs sheet.now past links result }
 {

@@ -3,6 +3,7 @@
 #![tactic(auto)]
 
 use handles::{read_full, write_all};
+use plan::plan_in;
 use plan_file::read;
 use std::io::Stdout;
 use vee::{Answer, test};
@@ -41,9 +42,7 @@ fn show(out: Stdout, answer: Answer) {
 }
 
 fn answer(out: Stdout, bytes: &[u8]) {
-    let reading = read(bytes);
-    let p = reading.plan;
-    show(out, test(p));
+    show(out, test(plan_in(read(bytes))));
 }
 
 // Worked case 1.

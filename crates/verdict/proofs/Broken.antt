@@ -23,7 +23,6 @@ use Rattle.bounds.specs.Bounds.{bound_kept}
 use Rattle.board.proofs.Theorems.Links.{link_to_lem}
 use Rattle.board.proofs.Linked.{sound_by_lem}
 use Rattle.board.specs.ByLinks.{sound_by}
-use Rattle.board.specs.Boards.{minute}
 use Rattle.verdict.specs.Verdicts.{ordinary_kept, wait_kept, kept, first_broken, ended_of, verdict_of}
 use Rattle.links.specs.Inside.{no_end, end_of, LinksOf}
 use Rattle.verdict.specs.Inside.{kept_at, ended_by}

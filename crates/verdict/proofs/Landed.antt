@@ -6,7 +6,6 @@ use lib.Dec.{eqb}
 use Rattle.std.specs.Prelude.{if◌then◌else◌}
 use Rattle.points.specs.Sets.{members_of, below_of, every}
 use Rattle.plan.specs.ReplyNumbers.{refusal, accepted}
-use Rattle.plan.specs.declared.Refusal.{Refusal}
 use Rattle.links.specs.declared.Links.{Links}
 use Rattle.board.specs.ByLinks.{sound_else}
 use Rattle.board.specs.declared.Board.{Board}

@@ -14,14 +14,14 @@ ghost use Rattle.verdict.specs.Inside.{kept_at, ended_by};
 
 use board::{Board, ROOM, UNSOUND, is_finished_by, is_sound_by};
 use bounds::bound_kept;
-use history::used;
 use links::{Links, links_by};
-use plan::{ACCEPTED, ORDINARY, Plan, Record, Refusal, WAIT, check, split};
+use plan::{ACCEPTED, ORDINARY, Plan, Record, Refusal, WAIT, check, split, used};
 
 // The reply number 31.
 pub const NOT_ALL_DONE: u32 = 31;
 
 // What the verdict is: a refusal, kept, or the number in the file of the first broken record.
+// Three outcomes, each with its own values: so no Result.
 #[derive(Clone, Copy)]
 pub enum Verdict {
     Refused(u32, u32),
@@ -33,14 +33,7 @@ pub enum Verdict {
 fn wait_kept(from: u32, to: u32, w: u32, at: u32) -> bool
     ensures { result ≡ leb (from + min w (to - from)) at }
 {
-    if to <= from {
-        return from <= at;
-    }
-    if w < to - from {
-        from + w <= at
-    } else {
-        to <= at
-    }
+    from + w.min(to.saturating_sub(from)) <= at
 }
 
 // A record is kept: its points are at the minutes `at` and `to`, and the link that ends at its second one started at `from`.
@@ -65,8 +58,7 @@ fn first_broken(plan: Plan, board: Board, links: Links) -> Verdict
     let n = used(plan.count);
     let minutes = board.minutes;
     let ends = links.ends;
-    let mut i: usize = 0;
-    while i < n {
+    for i in 0..n {
         let r = plan.records[i];
         let a = r.a as usize % ROOM;
         let b = r.b as usize % ROOM;
@@ -75,7 +67,6 @@ fn first_broken(plan: Plan, board: Board, links: Links) -> Verdict
         if !is_kept(minutes[a], minutes[b], minutes[from], r) {
             return Verdict::Broken(i as u32);
         }
-        i += 1;
     }
     Verdict::Kept
 }
@@ -96,21 +87,12 @@ pub fn ended_by(board: Board, links: Links) -> Refusal
     ensures { result ≡ ended_by links board }
 {
     if !is_sound_by(board, links) {
-        return Refusal {
-            number: UNSOUND,
-            place: 0,
-        };
+        return Refusal::new(UNSOUND, 0);
     }
     if !is_finished_by(board, links) {
-        return Refusal {
-            number: NOT_ALL_DONE,
-            place: 0,
-        };
+        return Refusal::new(NOT_ALL_DONE, 0);
     }
-    Refusal {
-        number: ACCEPTED,
-        place: 0,
-    }
+    Refusal::new(ACCEPTED, 0)
 }
 
 // The verdict on a finished board.

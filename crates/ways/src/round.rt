@@ -6,7 +6,7 @@ ghost use Rattle.ways.specs.Steps.{with_step};
 ghost use Rattle.ways.specs.Toward.{ExtendAsks};
 ghost use Rattle.ways.specs.Round.{closes_by, ClosingAsks, Closing, FinishAsks, RoundAsks, RoundOf};
 
-use crate::steps::{Step, Way, is_edge, no_way, step_at, wide};
+use crate::steps::{Step, Way, is_edge, no_way, step_at};
 use crate::toward::way;
 use rows::{SHEET, fill};
 use tables::{BIAS, NONE, Part, ROOM, SIDE};
@@ -22,7 +22,7 @@ fn closes(all: &[u32; ROOM], step: Step) -> bool
 {
     let from = step.from;
     let to = step.to;
-    let back = wide(all[to * SIDE + from]);
+    let back = u64::from(all[to * SIDE + from]);
     (back < NOWHERE) & (back + step.up < MIDDLE + step.down)
 }
 
@@ -54,7 +54,7 @@ fn with_step(way: Way, step: Step) -> Way
     steps[count] = step;
     Way {
         count: count + 1,
-        steps: steps,
+        steps,
     }
 }
 

@@ -6,8 +6,7 @@ ghost use Rattle.tables.specs.Tables.{side};
 ghost use Rattle.rows.specs.Sheet.{over_at, kind_at};
 ghost use Rattle.ways.specs.Steps.{step_of, step_at, is_edge, no_steps, way_as};
 
-use plan::{ORDINARY, WAIT};
-use rows::{Row, SHEET, index, row_at};
+use rows::{ORDINARY_ROW, Row, SHEET, WAIT_ROW, row_at};
 use tables::SIDE;
 
 // A step of a way: the row that it goes by, where it leaves and where it leads, and its length, `up` less `down`.
@@ -32,40 +31,24 @@ pub const NO_STEP: Step = Step {
 pub const MOST_STEPS: usize = SIDE;
 
 // The steps of a way, so many of them; the room after them is zero.
+// A room with its length beside it: the project has no heap.
 #[derive(Clone, Copy)]
 pub struct Way {
     pub count: usize,
     pub steps: [Step; MOST_STEPS],
 }
 
-const ORDINARY_ROW: u64 = ORDINARY as u64;
-
-const WAIT_ROW: u64 = WAIT as u64;
-
-// A number of a table as a wider one.
-pub(crate) fn wide(v: u32) -> u64
-    ensures { (result ≡ v) × (v < 2 ^ 32) }
-{
-    v as u64
-}
-
-fn least(a: u64, b: u64) -> u64
-    ensures { result ≡ min a b }
-{
-    if a < b { a } else { b }
-}
-
 // The edge of a row, whose link lasts `p`; of a link the one back, if so.
 fn step_of(row: Row, q: usize, p: u64, back: bool) -> Step
     ensures { result ≡ step_of row q p back }
 {
-    let from = index(row.from);
-    let to = index(row.to);
+    let from = row.from as usize;
+    let to = row.to as usize;
     if row.kind == ORDINARY_ROW {
         return Step {
             row: q,
-            from: from,
-            to: to,
+            from,
+            to,
             up: row.first,
             down: row.second,
         };
@@ -73,10 +56,10 @@ fn step_of(row: Row, q: usize, p: u64, back: bool) -> Step
     if row.kind == WAIT_ROW {
         return Step {
             row: q,
-            from: from,
-            to: to,
+            from,
+            to,
             up: 0,
-            down: least(row.first, p),
+            down: row.first.min(p),
         };
     }
     if back {
@@ -90,8 +73,8 @@ fn step_of(row: Row, q: usize, p: u64, back: bool) -> Step
     }
     Step {
         row: q,
-        from: from,
-        to: to,
+        from,
+        to,
         up: p,
         down: 0,
     }
@@ -104,7 +87,7 @@ pub(crate) fn step_at(sheet: &[u32; SHEET], durations: &[u64; SIDE], k: usize) -
 {
     let q = k / 2;
     let row = row_at(sheet, q);
-    let p = durations[index(row.over)];
+    let p = durations[row.over as usize];
     step_of(row, q, p, k % 2 == 1)
 }
 
@@ -122,10 +105,7 @@ pub fn no_way() -> Way
     ensures { result ≡ way_as [] }
 {
     let steps = no_steps();
-    Way {
-        count: 0,
-        steps: steps,
-    }
+    Way { count: 0, steps }
 }
 
 // No steps yet.

@@ -5,7 +5,7 @@ ghost use Rattle.tables.specs.Tables.{side};
 ghost use Rattle.tables.specs.Entries.{raw};
 ghost use Rattle.ways.specs.Toward.{ExtendAsks, extends_by, TakeAsks, takes_by, SearchAsks, Searched, ReachAsks, Reached, FollowAsks, Followed, WayAsks, WayOf};
 
-use crate::steps::{Step, Way, is_edge, no_steps, step_at, wide};
+use crate::steps::{Step, Way, is_edge, no_steps, step_at};
 use rows::SHEET;
 use tables::{ROOM, SIDE};
 
@@ -24,8 +24,8 @@ fn extends(all: &[u32; ROOM], order: &[u32; SIDE], step: Step, y: usize) -> bool
 {
     let from = step.from;
     let to = step.to;
-    let here = wide(all[from * SIDE + y]);
-    let there = wide(all[to * SIDE + y]);
+    let here = u64::from(all[from * SIDE + y]);
+    let there = u64::from(all[to * SIDE + y]);
     (order[from] == 0) & ((0 < order[to]) & (here + step.down == there + step.up))
 }
 
@@ -85,6 +85,7 @@ fn reach(
     order[y] = 1;
     let mut count: u32 = 1;
     let mut k = search(all, &order, sheet, durations, m, y);
+    // It goes on until the search finds nothing: no index is counted.
     while k < 2 * m {
         let step = step_at(sheet, durations, k);
         let from = step.from;
@@ -93,10 +94,7 @@ fn reach(
         next[from] = step;
         k = search(all, &order, sheet, durations, m, y);
     }
-    Found {
-        order: order,
-        next: next,
-    }
+    Found { order, next }
 }
 
 // The steps from `x` on.
@@ -107,16 +105,14 @@ fn follow(order: [u32; SIDE], next: [Step; SIDE], x: usize) -> Way
     let mut steps = no_steps();
     let mut count: usize = 0;
     let mut here = x;
+    // It goes on from step to step: no index is counted.
     while 1 < order[here] {
         let step = next[here];
         steps[count] = step;
         count += 1;
         here = step.to;
     }
-    Way {
-        count: count,
-        steps: steps,
-    }
+    Way { count, steps }
 }
 
 // The steps of a shortest way from `x` to `y` over the edges of the first `m` rows, whose distances `all` has.

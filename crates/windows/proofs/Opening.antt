@@ -8,8 +8,8 @@ use lib.Dec.{eqb, ltb}
 use borrow.Author.Tests.{ltb-true}
 use Rattle.std.specs.Prelude.{if◌then◌else◌}
 use lib.ListN.{get_or}
-use Rattle.points.specs.Sets.{member, members_of, below_of}
-use Rattle.points.proofs.Laws.{Turn, members_empty, member_below}
+use Rattle.points.specs.Sets.{member, below_of}
+use Rattle.points.proofs.Laws.{member_below}
 use Rattle.plan.specs.Limits.{most_points}
 use Rattle.plan.specs.APlan.{some, points, watched}
 use Rattle.records.specs.declared.Record.{Record}
@@ -27,14 +27,16 @@ unfolding least_at
 least_at_le highs [] = omega arith
 least_at_le highs (p ∷ ps) = omega (arith, least_at_le highs ps)
 
-pub least_turn : (highs : List ℕ) (s p rest : ℕ) → Turn s p rest → (n : ℕ)
-    → min n (least_at highs (members_of s)) ≡ min (min n (get_or highs p 0)) (least_at highs (members_of rest))
-unfolding least_at
-least_turn highs s p rest t n = rw t.members (omega arith)
+module _ (highs : List ℕ) (n : ℕ) {left : List ℕ} where
+  -- with the next of the points that are left
+  pub least_more : {p : ℕ} {rest : List ℕ} → left ≡ p ∷ rest → min n (least_at highs left) ≡ min (min n (get_or highs p 0)) (least_at highs rest)
+  unfolding least_at
+  least_more e = rw e (omega arith)
 
-pub least_end : (highs : List ℕ) (n : ℕ) → n ≤ never → n ≡ min n (least_at highs (members_of 0))
-unfolding least_at
-least_end highs n h = rw members_empty (omega arith)
+  -- none is left
+  pub least_none : n ≤ never → left ≡ [] → n ≡ min n (least_at highs left)
+  unfolding least_at
+  least_none h e = rw e (omega arith)
 
 -- ---- the open points from the tables
 

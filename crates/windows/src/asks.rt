@@ -10,9 +10,9 @@ use crate::{NOT_OPEN, TOO_EARLY, TOO_LATE, Windows};
 use events::{Event, NO_POINT};
 use history::minute_at;
 use links::Links;
-use lowhigh::{FARTHEST, either, lesser, past};
+use lowhigh::{FARTHEST, either};
 use plan::{ACCEPTED, Refusal};
-use points::{first, has, without};
+use points::{has, members};
 
 // A Low is above H, which is 100,000 up.
 fn is_above(high: u32, low: u32) -> bool
@@ -31,14 +31,10 @@ pub fn all_above(w: Windows) -> bool
 {
     let lows = w.lows;
     let high = w.high;
-    let mut rest = w.opens;
-    while rest != 0 {
-        let p = first(rest);
-        let at = p as usize;
-        if !is_above(high, lows[at]) {
+    for p in members(w.opens) {
+        if !is_above(high, lows[p as usize]) {
             return false;
         }
-        rest = without(rest, p);
     }
     true
 }
@@ -48,7 +44,8 @@ pub fn latest_of(clock: u32, high: u32) -> u32
     requires { clock ≤ last_minute }
     ensures { result ≡ latest_from clock high }
 {
-    past(lesser(high, clock + FARTHEST + FARTHEST), FARTHEST)
+    high.min(clock + FARTHEST + FARTHEST)
+        .saturating_sub(FARTHEST)
 }
 
 // 28 to 30 in order, or else 0.
@@ -73,7 +70,7 @@ pub fn point_number(w: Windows, latest: u32, e: Event) -> u32
 fn is_foremans(links: Links, done: u32, p: u8) -> bool
     ensures { result ≡ foreman_in links done p }
 {
-    ((p as u32) < links.points) & (!has(links.watched, p) & !has(done, p))
+    (u32::from(p) < links.points) & (!has(links.watched, p) & !has(done, p))
 }
 
 // The record beside the number n of an event for the point p: beside 28 the one that keeps p shut, where p is a foreman's point
@@ -90,8 +87,5 @@ pub fn record_beside(links: Links, done: u32, w: Windows, p: u8, n: u32) -> u32
 pub fn refusal(number: u32, place: u32) -> Refusal
     ensures { result ≡ refused number place }
 {
-    Refusal {
-        number: number,
-        place: place,
-    }
+    Refusal::new(number, place)
 }

@@ -15,9 +15,9 @@ mod asks;
 pub use asks::{all_above, latest_of, point_number, record_beside, refusal};
 use history::{ROOM, first_points};
 use links::Links;
-use lowhigh::{NEVER, lesser, tables_of};
+use lowhigh::{NEVER, tables_of};
 use plan::Plan;
-use points::{first, without};
+use points::members;
 
 // The reply numbers 21 to 23 and 28 to 30.
 pub const ALL_DONE: u32 = 21;
@@ -54,12 +54,8 @@ fn least_high(set: u32, highs: [u32; ROOM]) -> u32
     ensures { result ≡ least_at highs (members_of set) }
 {
     let mut least = NEVER;
-    let mut rest = set;
-    while rest != 0 {
-        let p = first(rest);
-        let at = p as usize;
-        least = lesser(least, highs[at]);
-        rest = without(rest, p);
+    for p in members(set) {
+        least = least.min(highs[p as usize]);
     }
     least
 }
@@ -77,9 +73,9 @@ pub fn windows_of(plan: Plan, links: Links, clock: u32, done: u32, minutes: [u32
     let opens = minus(minus(foremans, done), tables.shut);
     let high = least_high(opens, highs);
     Windows {
-        opens: opens,
-        holders: holders,
-        lows: lows,
-        high: high,
+        opens,
+        holders,
+        lows,
+        high,
     }
 }

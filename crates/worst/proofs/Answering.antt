@@ -1,14 +1,14 @@
 -- What the answer of the plan test refuses is what the rules refuse, and where it refuses nothing the plan can be run. Assumes
 -- nothing.
-use mathlib.Core.Path.{◌≡◌, refl, sym, ap, ◌∙◌}
+use mathlib.Core.Path.{◌≡◌, refl, ap, ◌∙◌}
 use mathlib.Core.Bool.{Bool, true, false, not}
 use mathlib.Core.List.{List, ◌++◌}
-use Prim.Native.Nat.{ℕ, ◌+◌, ◌*◌, ◌≤◌, ◌<◌, min}
+use Prim.Native.Nat.{ℕ, ◌+◌, ◌*◌, ◌≤◌, ◌<◌}
 use native.Mathlib.Omega.{arith}
 use lib.Dec.{eqb, ltb}
 use lib.ListN.{length, drop, length-take}
 use borrow.Author.Tests.{eq-eqb, ne_eqb, lt-ltb, le-ltb}
-use Rattle.std.specs.Prelude.{if◌then◌else◌}
+use Rattle.std.specs.Prelude.{Result, Ok, Err, is_ok, if◌then◌else◌}
 use Rattle.plan.specs.Limits.{most_records, record_bytes}
 use Rattle.plan.specs.APlan.{points, links, records_of}
 use Rattle.plan.specs.ReplyNumbers.{check_of, refusal, accepted}
@@ -22,17 +22,12 @@ use Rattle.vee.specs.declared.Answer.TheVariants as answer
 use Rattle.vee.proofs.Testing.{accepted_plan}
 use Rattle.vee.proofs.Yes.{yes_exactly}
 use Rattle.vee.proofs.Executable.{test_is}
-use Rattle.steps.specs.Events.{SheetOf}
-use Rattle.worst.specs.WorstMinute.{is_yes, refused_of, worst_of, worst_of_all, day_events, bytes_of_all, day, day_of, day_written}
+use Rattle.worst.specs.WorstMinute.{is_yes, refused_of, worst_of, bytes_of_all, day_of, day_written}
 use Rattle.choices.specs.Answered.{refused_by, many_by}
 use Rattle.choices.specs.Choices.{ChooseAsks, ChosenAs}
-use Rattle.all_runs.specs.Coded.{put, day_for, written_for, DayAsks, DayAs, AllReady, FoundOf}
-use Rattle.all_runs.specs.declared.Put.{Put}
+use Rattle.all_runs.specs.Coded.{day_for, written_for, DayAsks, DayAs, AllReady, FoundOf}
 use Rattle.projection_runs.specs.ProjectionRuns.{events_of_run}
 use Rattle.worst.specs.Promises.{projection_at}
-use Rattle.worst.specs.declared.Day.{Day}
-use Rattle.worst.specs.declared.Worst.{Worst}
-use Rattle.worst.specs.declared.Worst.TheVariants.{Refused, At}
 use Rattle.all_runs.specs.declared.Found as found
 use Rattle.worst.proofs.Stands.{Granted, granted}
 use Rattle.all_runs.proofs.Searching.{choose_asks, chosen_is, run_ready}
@@ -66,7 +61,7 @@ module _ {p : Plan} where
     same = e ∙ refused_is t
 
     -- a refusal is the answer
-    pub worst_refused : (x.number ≡ 0 → ⊥) → Refused x.number x.place ≡ worst_of p
+    pub worst_refused : (x.number ≡ 0 → ⊥) → Err x ≡ worst_of p
     unfolding worst_of
     worst_refused h = rw (← same, ne_eqb x.number 0 h) refl
 
@@ -99,48 +94,42 @@ module _ {p : Plan} where
               few = omega (arith, et, many_are, may_run.few);
             }
 
-        pub worst_found : {f : found.Found} → FoundOf s p.count n k total f → At f.minute f.projection ≡ worst_of p
+        pub worst_found : {f : found.Found} → FoundOf s p.count n k total f → Ok f ≡ worst_of p
         unfolding worst_of
         worst_found o = rw (o.minute p all_ready, o.projection p all_ready, ← same, eq-eqb x.number 0 none) refl
 
     -- a refused day changes no byte
     module _ (n : ℕ) (out : List ℕ) where
-      pub day_refused_lem : (x.number ≡ 0 → ⊥) → {d : Day} → d ≡ day x.number x.place 0 → (d ≡ day_of p n out) × (out ≡ day_written p n out)
+      pub day_refused_lem : (x.number ≡ 0 → ⊥) → (Err x ≡ day_of p n out) × (out ≡ day_written p n out)
       unfolding day_of day_written
-      day_refused_lem h e = let k = ne_eqb x.number 0 h in (e ∙ rw (← same, k) refl, rw (← same, k, k) refl)
+      day_refused_lem h = let k = ne_eqb x.number 0 h in (rw (← same, k) refl, rw (← same, k) refl)
 
       module _ (none : x.number ≡ 0) where
         day_number_lem : eqb (refused_of p).number 0 ≡ true
         day_number_lem = rw (← same) (eq-eqb x.number 0 none)
 
         -- a number past the last projection has no events
-        pub day_past : {total : ℕ} → total ≡ many_by a → total ≤ n → {d : Day} → d ≡ day 0 0 0 → (d ≡ day_of p n out) × (out ≡ day_written p n out)
+        pub day_past : {total : ℕ} → total ≡ many_by a → total ≤ n → (Ok 0 ≡ day_of p n out) × (out ≡ day_written p n out)
         unfolding day_of day_written bytes_of_all
-        day_past et h e =
+        day_past et h =
             let k : ltb n (many (spans (records_of p))) ≡ false = le-ltb n (many (spans (records_of p))) (omega (arith, et, many_are none)) in
             let s : ltb (length out) 0 ≡ false = le-ltb (length out) 0 (omega arith) in
-            (e ∙ rw (day_number_lem, k, s) refl, rw (day_number_lem, k, s) refl)
+            (rw (day_number_lem, k, s) refl, rw (day_number_lem, k, s) refl)
 
         -- the day of a projection
-        pub day_is : {total : ℕ} → total ≡ many_by a → n < total → {w out' : List ℕ} {x : Put} {d : Day} → w ≡ projection_at p n
-            → d ≡ day x.number 0 x.events → x ≡ day_for (events_of_run p w) out → out' ≡ written_for (events_of_run p w) out → (d ≡ day_of p n out) × (out' ≡ day_written p n out)
+        pub day_is : {total : ℕ} → total ≡ many_by a → n < total → {w out' : List ℕ} {d : Result ℕ Refusal} → w ≡ projection_at p n
+            → d ≡ day_for (events_of_run p w) out → out' ≡ written_for (events_of_run p w) out → (d ≡ day_of p n out) × (out' ≡ day_written p n out)
         unfolding day_of day_written
-        day_is et h {w} {out'} {x} {d} ew e ex eo =
+        day_is et h {w} {out'} {d} ew ex eo =
             let k : ltb n (many (spans (records_of p))) ≡ true = lt-ltb n (many (spans (records_of p))) (omega (arith, et, many_are none)) in
-            let ex' : x ≡ day_for (events_of_run p (projection_at p n)) out = rw ew at ex in
+            let ex' : d ≡ day_for (events_of_run p (projection_at p n)) out = rw ew at ex in
             let eo' : out' ≡ written_for (events_of_run p (projection_at p n)) out = rw ew at eo in
-            (e ∙ ap (λ (x : Put). day x.number 0 x.events) ex' ∙ rw (day_number_lem, k) (as_day (ltb (length out) (record_bytes * length (events_of_run p (projection_at p n))))), eo' ∙ rw (day_number_lem, k) (go (ltb (length out) (record_bytes * length (events_of_run p (projection_at p n))))))
+            (ex' ∙ rw (day_number_lem, k) refl, eo' ∙ rw (day_number_lem, k) (go (ltb (length out) (record_bytes * length (events_of_run p (projection_at p n))))))
           where
-            as_day : (c : Bool)
-                → day (if c then put 12 0 else put 0 (length (events_of_run p (projection_at p n)))).number 0 (if c then put 12 0 else put 0 (length (events_of_run p (projection_at p n)))).events
-                ≡ (if c then day 12 0 0 else day 0 0 (length (events_of_run p (projection_at p n))))
-            as_day true = refl
-            as_day false = refl
-
             go : (c : Bool)
                 → (if c then out else bytes_of_all (events_of_run p (projection_at p n)) ++ drop (record_bytes * length (events_of_run p (projection_at p n))) out)
-                ≡ (if not (eqb (if c then day 12 0 0 else day 0 0 (length (events_of_run p (projection_at p n)))).number 0) then out
-                else bytes_of_all (events_of_run p (projection_at p n)) ++ drop (record_bytes * length (events_of_run p (projection_at p n))) out)
+                ≡ (if is_ok (if c then Err (refusal 12 0) else Ok (length (events_of_run p (projection_at p n)))) then bytes_of_all (events_of_run p (projection_at p n)) ++ drop (record_bytes * length (events_of_run p (projection_at p n))) out
+                else out)
             go true = refl
             go false = refl
 
@@ -156,5 +145,5 @@ module _ {p : Plan} where
         pub day_asks : DayAsks s p.count n w
         day_asks = record { plan = p; ready = run_ready p every h c }
 
-        pub day_found : {out out' : List ℕ} {x : Put} → DayAs s p.count n w out out' x → {d : Day} → d ≡ day x.number 0 x.events → (d ≡ day_of p i out) × (out' ≡ day_written p i out)
-        day_found {out} o e = day_is i out none et h (chosen_is p every h c) e (o.reply p (run_ready p every h c)) (o.written p (run_ready p every h c))
+        pub day_found : {out out' : List ℕ} {d : Result ℕ Refusal} → DayAs s p.count n w out out' d → (d ≡ day_of p i out) × (out' ≡ day_written p i out)
+        day_found {out} o = day_is i out none et h (chosen_is p every h c) (o.reply p (run_ready p every h c)) (o.written p (run_ready p every h c))

@@ -1,7 +1,8 @@
 -- Days, computed by the rules, of the haul of document 01, and of a yard with two points due at one minute; and the yard's worst
 -- finishing minute. The haul's, of 31 projections, is in `HaulWorst` of `instances`. Assumes nothing.
 use mathlib.Core.Path.{◌≡◌, refl}
-use mathlib.Core.List.{List, [], ◌∷◌}
+use Rattle.std.specs.Prelude.{Err}
+use mathlib.Core.List.{[], ◌∷◌}
 use lib.Count.{ones}
 use Rattle.plan.specs.Haul.{haul, circle}
 use Rattle.plan.specs.APlan.{how_many, some, first_that, place_from}
@@ -17,8 +18,8 @@ use Rattle.vee.specs.TestOf.{arcs, listed, at_once, passes, first_from, judge_of
 use Rattle.promise.specs.Plays.{least_of, set_of}
 use Rattle.projection_runs.specs.ProjectionRuns.{run_from, events_from}
 use Rattle.projection_runs.proofs.ABoard.{at, yard}
-use Rattle.worst.specs.WorstMinute.{refused_of, worst_from, worst_of, day_events}
-use Rattle.worst.specs.declared.Worst.TheVariants.{Refused, At}
+use Rattle.plan.specs.ReplyNumbers.{refusal}
+use Rattle.worst.specs.WorstMinute.{refused_of, worst_from, worst_of, worst_at, day_events}
 
 -- ---- days
 
@@ -50,10 +51,10 @@ no_day = refl
 -- ---- worst minutes
 
 -- both projections are done at 9, and the first counts
-yard_worst : worst_of yard ≡ At 9 0
+yard_worst : worst_of yard ≡ worst_at 9 0
 unfolding worst_of refused_of worst_from run_from least_of set_of first_or ones take_of event_number board_after mark_all sound numbered each largest state_of greatest least least_high member members_of with_of below_of subset_of from every passing how_many some first_that place_from check_with first_bad_with number_for_with last_kind test_of test_from judge_of first_from passes at_once listed arcs spans spread projections many
 yard_worst = refl
 
-circle_worst : worst_of circle ≡ Refused 60 0
+circle_worst : worst_of circle ≡ Err (refusal 60 0)
 unfolding worst_of refused_of worst_from run_from least_of set_of first_or ones take_of event_number board_after mark_all sound numbered each largest state_of greatest least least_high member members_of with_of below_of subset_of from every passing how_many some first_that place_from check_with first_bad_with number_for_with last_kind test_of test_from judge_of first_from passes at_once listed arcs spans spread projections many
 circle_worst = refl

@@ -1,5 +1,5 @@
 -- The worst of a list of finishing minutes: none is larger, one is as large, and none before that one. Assumes nothing.
-use mathlib.Core.Path.{◌≡◌, refl, sym, ap, subst, ◌∙◌}
+use mathlib.Core.Path.{◌≡◌, refl, ap}
 use mathlib.Core.Logic.{◌⊎◌, inl, inr}
 use mathlib.Core.Bool.{Bool, true, false}
 use mathlib.Core.List.{List, [], ◌∷◌}
@@ -15,7 +15,7 @@ use Rattle.vee.specs.PlanTest.{spans, unset, many}
 use Rattle.vee.proofs.Walks.{as_many}
 use Rattle.vee.proofs.Yes.{Every, none, also}
 use Rattle.vee.proofs.Numbered.{every_at}
-use Rattle.worst.specs.WorstMinute.{projections_of, finishing, Finish, worse, worst_from, worst_of_all}
+use Rattle.worst.specs.WorstMinute.{projections_of, finishing, Finish, worst_from, worst_of_all}
 use Rattle.worst.specs.Promises.{projection_at, IsWorst}
 
 module _ (p : Plan) where

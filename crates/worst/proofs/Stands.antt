@@ -4,15 +4,14 @@ use mathlib.Core.Path.{◌≡◌, refl, sym, ap, subst, ◌∙◌}
 use mathlib.Core.Logic.{◌≢◌}
 use mathlib.Core.Bool.{Bool, true, false, not}
 use mathlib.Core.List.{List, [], ◌∷◌}
-use Prim.Native.Nat.{ℕ, zero, suc, ◌*◌, ◌≤◌, ◌<◌}
+use Prim.Native.Nat.{ℕ, ◌≤◌, ◌<◌}
 use native.Mathlib.Omega.{arith}
 use native.Mathlib.Decide.{dec_lt}
 use lib.Dec.{eqb, ltb}
 use lib.ListN.{length, get_or}
 use borrow.Author.Tests.{eqb-true, ne_eqb, ltb-false, lt-ltb, le-ltb}
-use Rattle.std.specs.Prelude.{if◌then◌else◌}
-use Rattle.plan.specs.Limits.{farthest}
-use Rattle.plan.specs.APlan.{points, link_to, records_of}
+use Rattle.std.specs.Prelude.{Err, if◌then◌else◌}
+use Rattle.plan.specs.APlan.{link_to, records_of}
 use Rattle.plan.specs.ReplyNumbers.{check_of, refusal, accepted}
 use Rattle.records.specs.declared.Record.{Record}
 use Rattle.plan.specs.declared.Plan.{Plan}
@@ -36,10 +35,9 @@ use Rattle.promise.specs.Nets.{PassesPlan}
 use Rattle.promise.specs.Plays.{Players, Play, Fixed}
 use Rattle.promise.specs.GoodSheets.{AllTaken, board_of}
 use Rattle.promise.proofs.Players.{longest_in_bounds}
-use Rattle.worst.specs.WorstMinute.{projections_of, is_yes, worst_of_all, refused_of, worst_of, day_events}
+use Rattle.worst.specs.WorstMinute.{projections_of, is_yes, worst_of_all, refused_of, worst_of, worst_at, worst_values, day_events}
 use Rattle.projection_runs.specs.ProjectionRuns.{run_of, events_of_run}
 use Rattle.worst.specs.Promises.{TakesAim, projection_at, NoneLater, DayStands, WorstStands, Answers}
-use Rattle.worst.specs.declared.Worst.TheVariants.{Refused, At}
 use Rattle.all_runs.proofs.Searching.{projection_in_bounds}
 use Rattle.projection_runs.proofs.OnRuns.{play_along, not_later, runs_well, is_play}
 use Rattle.worst.proofs.Largest.{each_by, is_worst}
@@ -139,23 +137,23 @@ module _ (p : Plan) where
     passing_yes : PassesPlan p → is_yes (test_of p) ≡ true
     passing_yes h = ap is_yes ((yes_exactly ok few (computed p)).1 h)
 
-    passing_answered : PassesPlan p → worst_of p ≡ At (worst_of_all p).minute (worst_of_all p).projection
+    passing_answered : PassesPlan p → worst_of p ≡ worst_at (worst_of_all p).minute (worst_of_all p).projection
     unfolding worst_of refused_of
     passing_answered h = rw (ok, le-ltb most_projections (many (spans (records_of p))) few, passing_yes h)
 
-    failing_answered : (PassesPlan p → ⊥) → worst_of p ≡ Refused 60 0
+    failing_answered : (PassesPlan p → ⊥) → worst_of p ≡ Err (refusal 60 0)
     unfolding worst_of refused_of
     failing_answered h = go (is_yes (test_of p)) refl
       where
-        go : (c : Bool) → is_yes (test_of p) ≡ c → worst_of p ≡ Refused 60 0
+        go : (c : Bool) → is_yes (test_of p) ≡ c → worst_of p ≡ Err (refusal 60 0)
         go true e = absurd (h (yes_passing e))
         go false e = rw (ok, le-ltb most_projections (many (spans (records_of p))) few, e)
 
-  own_answered : (check_of p).number ≢ 0 → worst_of p ≡ Refused (check_of p).number (check_of p).place
+  own_answered : (check_of p).number ≢ 0 → worst_of p ≡ Err (check_of p)
   unfolding worst_of refused_of
   own_answered n = let e = ne_eqb (check_of p).number 0 n in rw (e, e)
 
-  many_answered : (check_of p).number ≡ 0 → most_projections < many (spans (records_of p)) → worst_of p ≡ Refused 13 0
+  many_answered : (check_of p).number ≡ 0 → most_projections < many (spans (records_of p)) → worst_of p ≡ Err (refusal 13 0)
   unfolding worst_of refused_of
   many_answered ok l = rw (ok, lt-ltb most_projections (many (spans (records_of p))) l)
 
@@ -179,18 +177,18 @@ module _ (p : Plan) where
           let few = ltb-false most_projections (many (spans (records_of p))) g in
           record { ok = ok; few = few; passes = yes_passing ok few h }
 
-  answered : (t i : ℕ) → worst_of p ≡ At t i → WorstStands p t i
+  answered : (t i : ℕ) → worst_of p ≡ worst_at t i → WorstStands p t i
   unfolding worst_of
   answered t i e = go (eqb (refused_of p).number 0) refl e
     where
       go : (c : Bool) → eqb (refused_of p).number 0 ≡ c
-          → (if not c then Refused (refused_of p).number (refused_of p).place else At (worst_of_all p).minute (worst_of_all p).projection) ≡ At t i
+          → (if not c then Err (refused_of p) else worst_at (worst_of_all p).minute (worst_of_all p).projection) ≡ worst_at t i
           → WorstStands p t i
       go false f e = differ cc
       go true f e =
           let g = granted (eqb-true (refused_of p).number 0 f) in
-          let m : (worst_of_all p).minute ≡ t = cc in
-          let n : (worst_of_all p).projection ≡ i = cc in
+          let m : (worst_of_all p).minute ≡ t = ap (λ a. get_or (worst_values a) 0 0) e in
+          let n : (worst_of_all p).projection ≡ i = ap (λ a. get_or (worst_values a) 1 0) e in
           rw (m, n) at (worst_stands p g.ok g.passes)
 
   -- What is answered to every plan, and what the answer is worth.

@@ -1,9 +1,9 @@
 -- Document 02, §13, "Worst finishing minute": what is promised of the runs, and of the number that is reported. p is a plan
 -- that passes the test, w the durations of one of its projections. Assumes nothing.
-use Rattle.std.specs.Prelude.{◌≡◌, ◌≢◌, true, [], ℕ, ◌*◌, ◌≤◌, ◌<◌, length}
+use Rattle.std.specs.Prelude.{◌≡◌, ◌≢◌, true, Err, [], ℕ, ◌*◌, ◌≤◌, ◌<◌, length}
 use Rattle.plan.specs.Limits.{farthest}
 use Rattle.plan.specs.APlan.{points, records_of}
-use Rattle.plan.specs.ReplyNumbers.{check_of}
+use Rattle.plan.specs.ReplyNumbers.{check_of, refusal}
 use Rattle.plan.specs.declared.Plan.{Plan}
 use Rattle.board.specs.Boards.{fresh}
 use Rattle.board.specs.Stuck.{finished}
@@ -18,8 +18,7 @@ use Rattle.promise.specs.GoodSheets.{AllTaken, board_of}
 -- what is promised of each run, and projection number i of a plan
 pub use Rattle.projection_runs.specs.RunPromises.{AimIs, Along, OnTheWay, RunsWell, TakesAim, IsPlay}
 pub use Rattle.all_runs.specs.WorstRun.{projection_at}
-use Rattle.worst.specs.WorstMinute.{finishing, worst_of_all, worst_of, day_events}
-use Rattle.worst.specs.declared.Worst.TheVariants.{Refused, At}
+use Rattle.worst.specs.WorstMinute.{finishing, worst_of_all, worst_of, worst_at, day_events}
 
 -- ---- the worst finishing minute
 
@@ -56,10 +55,10 @@ pub record WorstStands (p : Plan) (t i : ℕ) : Type 0 where
 
 -- the answer to a plan: its own refusal, 13 for more than 4,096 projections, 60 where it does not pass, else what stands
 pub record Answers (p : Plan) : Type 0 where
-  pub own : (check_of p).number ≢ 0 → worst_of p ≡ Refused (check_of p).number (check_of p).place
-  pub too_many : (check_of p).number ≡ 0 → most_projections < many (spans (records_of p)) → worst_of p ≡ Refused 13 0
+  pub own : (check_of p).number ≢ 0 → worst_of p ≡ Err (check_of p)
+  pub too_many : (check_of p).number ≡ 0 → most_projections < many (spans (records_of p)) → worst_of p ≡ Err (refusal 13 0)
   pub failing : (check_of p).number ≡ 0 → many (spans (records_of p)) ≤ most_projections → (PassesPlan p → ⊥)
-      → worst_of p ≡ Refused 60 0
+      → worst_of p ≡ Err (refusal 60 0)
   pub passing : (check_of p).number ≡ 0 → many (spans (records_of p)) ≤ most_projections → PassesPlan p
-      → worst_of p ≡ At (worst_of_all p).minute (worst_of_all p).projection
-  pub stands : (t i : ℕ) → worst_of p ≡ At t i → WorstStands p t i
+      → worst_of p ≡ worst_at (worst_of_all p).minute (worst_of_all p).projection
+  pub stands : (t i : ℕ) → worst_of p ≡ worst_at t i → WorstStands p t i

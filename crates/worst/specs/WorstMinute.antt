@@ -1,6 +1,6 @@
 -- Document 02, §13, "Worst finishing minute": the largest finishing minute over all projections, and the day of one. Assumes
 -- nothing.
-use Rattle.std.specs.Prelude.{Bool, true, false, not, List, [], ◌∷◌, ◌++◌, ℕ, ◌*◌, eqb, ltb, length, get_or, drop, if◌then◌else◌}
+use Rattle.std.specs.Prelude.{Bool, true, false, not, Result, Ok, Err, is_ok, List, [], ◌∷◌, ◌++◌, ℕ, ◌*◌, eqb, ltb, length, get_or, drop, if◌then◌else◌}
 use Rattle.plan.specs.Limits.{record_bytes}
 use Rattle.plan.specs.APlan.{records_of}
 use Rattle.plan.specs.ReplyNumbers.{check_of, refusal, accepted}
@@ -17,9 +17,8 @@ unfoldable pub use Rattle.projection_runs.specs.ProjectionRuns.{bytes_of_all}
 pub use Rattle.all_runs.specs.WorstRun.{projections_of, Finish, worse, worst_of_all}
 unfoldable pub use Rattle.all_runs.specs.WorstRun.{worst_from}
 use Rattle.projection_runs.specs.ProjectionRuns.{events_of_run}
-use Rattle.worst.specs.declared.Worst.{Worst}
-use Rattle.worst.specs.declared.Worst.TheVariants.{Refused, At}
-use Rattle.worst.specs.declared.Day.{Day}
+-- what is found: a finishing minute, and the projection that has it
+pub use Rattle.all_runs.specs.declared.Found.{Found}
 
 -- the plan passes the test
 abbrev pub is_yes : Answer → Bool
@@ -36,21 +35,24 @@ refused_of p =
     else (if not (is_yes (test_of p)) then refusal 60 0
     else accepted))
 
+abbrev pub worst_at : ℕ → ℕ → Result Found Refusal
+worst_at t i = Ok (record { minute = t; projection = i })
+
 -- that, or the largest finishing minute and the first projection that reaches it
-unfoldable pub worst_of : Plan → Worst
+unfoldable pub worst_of : Plan → Result Found Refusal
 worst_of p =
-    if not (eqb (refused_of p).number 0) then Refused (refused_of p).number (refused_of p).place
-    else At (worst_of_all p).minute (worst_of_all p).projection
+    if not (eqb (refused_of p).number 0) then Err (refused_of p)
+    else worst_at (worst_of_all p).minute (worst_of_all p).projection
 
 -- the number of an answer, 0 where nothing is refused, and the values that each case carries: a refusal's record, or the minute and
 -- the projection
-abbrev pub worst_number : Worst → ℕ
-worst_number (Refused n i) = n
-worst_number (At t i) = 0
+abbrev pub worst_number : Result Found Refusal → ℕ
+worst_number (Err x) = x.number
+worst_number (Ok found) = 0
 
-abbrev pub worst_values : Worst → List ℕ
-worst_values (Refused n i) = i ∷ []
-worst_values (At t i) = t ∷ i ∷ []
+abbrev pub worst_values : Result Found Refusal → List ℕ
+worst_values (Err x) = x.place ∷ []
+worst_values (Ok found) = found.minute ∷ found.projection ∷ []
 
 -- ---- the day of a projection
 
@@ -58,18 +60,15 @@ worst_values (At t i) = t ∷ i ∷ []
 abbrev pub day_events : Plan → ℕ → List Event
 day_events p n = if ltb n (many (spans (records_of p))) then events_of_run p (get_or (projections_of p) n []) else []
 
-abbrev pub day : ℕ → ℕ → ℕ → Day
-day number place events = record { number = number; place = place; events = events }
-
 -- the plan's own refusal, 13, 60, 12 where the buffer is shorter than the events; else how many events there are
-unfoldable pub day_of : Plan → ℕ → List ℕ → Day
+unfoldable pub day_of : Plan → ℕ → List ℕ → Result ℕ Refusal
 day_of p n out =
-    if not (eqb (refused_of p).number 0) then day (refused_of p).number (refused_of p).place 0
-    else (if ltb (length out) (record_bytes * length (day_events p n)) then day 12 0 0
-    else day 0 0 (length (day_events p n)))
+    if not (eqb (refused_of p).number 0) then Err (refused_of p)
+    else (if ltb (length out) (record_bytes * length (day_events p n)) then Err (refusal 12 0)
+    else Ok (length (day_events p n)))
 
 -- what the buffer holds then: a refusal changes no byte; else the events at its front, and the rest as it was
 unfoldable pub day_written : Plan → ℕ → List ℕ → List ℕ
 day_written p n out =
-    if not (eqb (day_of p n out).number 0) then out
-    else bytes_of_all (day_events p n) ++ drop (record_bytes * length (day_events p n)) out
+    if is_ok (day_of p n out) then bytes_of_all (day_events p n) ++ drop (record_bytes * length (day_events p n)) out
+    else out

@@ -6,77 +6,49 @@
 ghost use Rattle.std.specs.Prelude.{◌≡◌};
 ghost use Rattle.worst.specs.WorstMinute.{worst_of, day_of, day_written};
 
+pub use all_runs::Found;
 use all_runs::{worst_run, write_day};
 pub use choices::DOES_NOT_PASS;
 use choices::{chosen, many_by, refused_by};
-use plan::{ACCEPTED, Plan, links_of, points_of};
+use plan::{ACCEPTED, Plan, Refusal, links_of, points_of};
 use rows::{SHEET, lay_out};
 use vee::test;
 
-// What is found: a refusal with its record, or the largest finishing minute and the first projection that reaches it.
-#[derive(Clone, Copy)]
-pub enum Worst {
-    Refused(u32, u32),
-    At(u32, u32),
-}
-
-// A refusal with its record, number 0 where there is none, and how many events a day has.
-#[derive(Clone, Copy)]
-pub struct Day {
-    pub number: u32,
-    pub place: u32,
-    pub events: u32,
-}
-
 // The plan's own refusal, 13, 60, or the largest finishing minute and the first projection that reaches it.
-pub fn worst_of(plan: Plan) -> Worst
+pub fn worst_of(plan: Plan) -> Result<Found, Refusal>
     ensures { result ≡ worst_of plan }
 {
     let answer = test(plan);
     let refused = refused_by(answer);
     if refused.number != ACCEPTED {
-        return Worst::Refused(refused.number, refused.place);
+        return Err(refused);
     }
     let mut sheet = [0u32; SHEET];
     lay_out(plan, &mut sheet);
     let n = points_of(plan);
     let links = links_of(plan) as usize;
-    let found = worst_run(&sheet, plan.count as usize, n, links, many_by(answer));
-    Worst::At(found.minute, found.projection)
+    Ok(worst_run(&sheet, plan.count as usize, n, links, many_by(answer)))
 }
 
 // The plan's own refusal, 13, 60, 12 where the buffer is too short; else how many events the run of that projection has, and
 // their sixteen bytes each at the front of the buffer. A number past the last projection has none.
-pub fn day_of(plan: Plan, projection: u32, out: &mut [u8]) -> Day
+pub fn day_of(plan: Plan, projection: u32, out: &mut [u8]) -> Result<u32, Refusal>
     ensures reply { result ≡ day_of plan projection out.old }
     ensures out { out.new ≡ day_written plan projection out.old }
 {
     let answer = test(plan);
     let refused = refused_by(answer);
     if refused.number != ACCEPTED {
-        return Day {
-            number: refused.number,
-            place: refused.place,
-            events: 0,
-        };
+        return Err(refused);
     }
     let many = many_by(answer);
     if many <= projection {
-        return Day {
-            number: ACCEPTED,
-            place: 0,
-            events: 0,
-        };
+        return Ok(0);
     }
     let mut sheet = [0u32; SHEET];
     lay_out(plan, &mut sheet);
     let n = points_of(plan);
     let links = links_of(plan) as usize;
     let w = chosen(&sheet, n as usize + links, links, many, projection);
-    let put = write_day(&sheet, plan.count as usize, n, &w, out);
-    Day {
-        number: put.number,
-        place: 0,
-        events: put.events,
-    }
+    write_day(&sheet, plan.count as usize, n, &w, out)
 }

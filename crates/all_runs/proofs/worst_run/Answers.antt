@@ -1,6 +1,6 @@
 -- `all_runs::worst_run` meets its contract. Assumes nothing.
 use mathlib.Core.Path.{refl, ◌∙◌}
-use Prim.Native.Nat.{ℕ, ◌-◌, ◌*◌}
+use Prim.Native.Nat.{ℕ, ◌*◌}
 use lib.ListN.{length-replicate}
 use Rattle.plan.specs.Limits.{most_points, record_bytes}
 use Rattle.all_runs.proofs.Searching.{few_rows, search_asks, search_runs, searching_start, searching_turn, searching_end}

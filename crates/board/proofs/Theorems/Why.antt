@@ -9,7 +9,7 @@ use lib.Dec.{eqb, ltb, leb}
 use lib.ListN.{length, get_or}
 use borrow.Author.Tests.{eqb-true, eq-eqb, ne_eqb, not-true, not-false}
 use Rattle.std.specs.Prelude.{if◌then◌else◌}
-use Rattle.plan.specs.APlan.{point, ordinary, wait, is, some, points, records_of, blank, gap_of, link_to}
+use Rattle.plan.specs.APlan.{point, ordinary, wait, is, some, points, records_of, blank}
 use Rattle.plan.specs.ReplyNumbers.{check_of}
 use Rattle.plan.specs.declared.Plan.{Plan}
 use Rattle.plan.proofs.Accepted.{Accepted, accepted_plan, get_d_some, first_point, not_a}
@@ -21,7 +21,7 @@ use Rattle.points.specs.Sets.{members_of, every}
 use Rattle.board.specs.Boards.{each}
 use Rattle.board.specs.Windows.{shuts, foremans, is_open, holder, low, some_open}
 use Rattle.board.specs.Stuck.{finished, stuck, latest}
-use Rattle.board.specs.Events.{event_minute, event_point, no_point, event_set, well_formed, ends_running, in_time, not_late, event_number, event_record}
+use Rattle.board.specs.Events.{event_minute, event_point, no_point, event_set, well_formed, ends_running, in_time, not_late, event_number}
 use Rattle.board.specs.Why.{NoHolder, FirstHolder, WhyShut, Why28}
 use Rattle.board.specs.declared.Board.{Board}
 

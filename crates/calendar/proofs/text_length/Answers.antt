@@ -1,7 +1,6 @@
 -- `calendar::text_length` meets its contract. Assumes nothing.
 use native.Mathlib.Omega.{arith}
 use mathlib.Core.Path.{refl}
-use Prim.Native.Nat.{◌-◌}
 use Rattle.calendar.specs.Calendars.{events_length}
 use Rattle.calendar.proofs.Going.{counted_few, counted_more, counted_all}
 use Rattle.calendar.proofs.text_length.Goals as goal
@@ -9,9 +8,6 @@ use Rattle.calendar.proofs.text_length.Goals as goal
 pub loop-p-init : goal.loop-p-init
 unfolding events_length
 loop-p-init c = record { pass = record { few = c.requires; upto = omega arith }; sofar = refl }
-
-pub bounds-ponds-p : goal.bounds-ponds-p
-bounds-ponds-p c = omega (arith, c.loop-p.invariant.pass.few, c.loop-p-test.true)
 
 pub overflow_add-k : goal.overflow_add-k
 overflow_add-k c =

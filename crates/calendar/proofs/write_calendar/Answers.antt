@@ -8,7 +8,7 @@ use Rattle.calendar.proofs.write_calendar.Goals as goal
 pub returns-then-found-ne-ACCEPTED : goal.returns-then-found-ne-ACCEPTED
 returns-then-found-ne-ACCEPTED c =
     let a = c.args in
-    let all = unchecked a.plan a.board a.origin a.out.now _ c.check-found.ensures c.if-found-ne-ACCEPTED.true _ c.refuse.ensures in
+    let all = unchecked a.plan a.board a.origin a.out.now _ c.check-found.ensures c.if-found-ne-ACCEPTED.true in
     record {
       reply = all.0;
       bytes = all.1;

@@ -2,7 +2,6 @@
 use native.Mathlib.Omega.{arith}
 use mathlib.Core.Path.{refl, sym, ◌∙◌}
 use borrow.Author.Tests.{not-true, not-false}
-use Prim.Native.Nat.{◌-◌}
 use Rattle.plan.specs.Limits.{most_points}
 use Rattle.history.proofs.Walks.{points_fails, points_turn, points_end}
 use Rattle.calls.specs.Calls.{unnumbered}

@@ -9,6 +9,3 @@ use Rattle.calls.proofs.all_unnumbered.Given as goal
 abbrev pub invariant-loop-p : goal.invariant-loop-p
 invariant-loop-p l =
     (l.p ≤ most_points) × (every (unnumbered l.done l.calls) (from l.p (most_points - l.p)) ≡ every (unnumbered l.done l.calls) (from 0 most_points))
-
-abbrev pub decreases-loop-p : goal.decreases-loop-p
-decreases-loop-p l = most_points - l.p

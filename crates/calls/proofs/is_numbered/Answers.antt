@@ -6,6 +6,3 @@ use Rattle.calls.proofs.is_numbered.Goals as goal
 pub returns-then-not-all_unnumbered : goal.returns-then-not-all_unnumbered
 unfolding numbered
 returns-then-not-all_unnumbered c = rw (sym c.all_unnumbered.ensures ∙ c.if-not-all_unnumbered.true)
-
-pub done_numbered-requires : goal.done_numbered-requires
-done_numbered-requires c = sym c.all_unnumbered.ensures ∙ c.if-not-all_unnumbered.false

@@ -7,7 +7,4 @@ use Rattle.calls.specs.Inside.{rises, rising}
 use Rattle.calls.proofs.is_rising.Given as goal
 
 abbrev pub invariant-loop-i : goal.invariant-loop-i
-invariant-loop-i l = (l.k ≤ most_points) × (l.i ≤ l.k) × (every (rises l.noted) (from l.i (l.k - 1 - l.i)) ≡ rising l.noted l.k)
-
-abbrev pub decreases-loop-i : goal.decreases-loop-i
-decreases-loop-i l = l.n - l.i
+invariant-loop-i l = (l.k ≤ most_points) × (l.last ≡ l.k - 1) × (every (rises l.noted) (from l.i (l.k - 1 - l.i)) ≡ rising l.noted l.k)

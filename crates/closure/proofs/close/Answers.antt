@@ -5,13 +5,13 @@ use mathlib.Core.Bool.{not}
 use Rattle.closure.proofs.close.Goals as goal
 
 pub returns-then-found-ne-ACCEPTED : goal.returns-then-found-ne-ACCEPTED
-returns-then-found-ne-ACCEPTED c = close_refused_lem _ c.check-found.ensures c.if-found-ne-ACCEPTED.true c.refuse.ensures
+returns-then-found-ne-ACCEPTED c = close_refused_lem _ c.check-found.ensures c.if-found-ne-ACCEPTED.true
 
 pub has_steps-requires : goal.has_steps-requires
 has_steps-requires c = few_records _ c.check-found.ensures c.if-found-ne-ACCEPTED.false
 
 pub returns-then-has_steps : goal.returns-then-has_steps
-returns-then-has_steps c = close_steps _ c.check-found.ensures c.if-found-ne-ACCEPTED.false c.has_steps.ensures c.if-has_steps.true c.refuse-then-has_steps.ensures
+returns-then-has_steps c = close_steps _ c.check-found.ensures c.if-found-ne-ACCEPTED.false c.has_steps.ensures c.if-has_steps.true c.refuse.ensures
 
 pub lay_out-requires : goal.lay_out-requires
 lay_out-requires c = few_records _ c.check-found.ensures c.if-found-ne-ACCEPTED.false

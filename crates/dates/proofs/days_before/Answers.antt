@@ -1,7 +1,6 @@
 -- `dates::days_before` meets its contract. Assumes nothing.
-use mathlib.Core.Path.{◌≡◌, refl}
+use mathlib.Core.Path.{refl}
 use native.Mathlib.Omega.{arith}
-use Prim.Native.Nat.{◌-◌}
 use Rattle.dates.specs.Gregorian.{days_in}
 use Rattle.dates.specs.Counting.{before}
 use Rattle.dates.proofs.Days.{length_of_lem}
@@ -20,6 +19,3 @@ loop-k-preserved c =
     let l = (length_of_lem c.args.year c.loop-k.k).most in
     let s = next_part (days_in c.args.year) c.loop-k.k in
     (omega arith, (omega (arith, c.days_in-n.ensures), omega (arith, c.days_in-n.ensures)))
-
-pub returns : goal.returns
-returns c = let e : c.loop-k.k ≡ c.args.month = omega arith in rw e at c.loop-k.invariant.1.0

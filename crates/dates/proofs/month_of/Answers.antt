@@ -1,8 +1,7 @@
 -- `dates::month_of` meets its contract. Assumes nothing.
 use native.Mathlib.Omega.{arith}
-use Prim.Native.Nat.{◌-◌}
 use Rattle.dates.proofs.Days.{january, not_last}
-use Rattle.dates.proofs.Passing.{turn, stop}
+use Rattle.dates.proofs.Passing.{turn}
 use Rattle.dates.proofs.month_of.Goals as goal
 
 pub loop-month_days-init : goal.loop-month_days-init
@@ -13,6 +12,3 @@ loop-month_days-preserved c =
     let i = c.loop-month_days.invariant in
     let l = not_last _ _ _ _ i.0.counted (omega arith) (omega (arith, i.0.days)) i.1.1 in
     (turn i.0 (omega arith) c.days_in-month_days-in-loop-month_days.ensures, (omega arith, l))
-
-pub returns : goal.returns
-returns c = stop c.loop-month_days.invariant.0 (omega arith)

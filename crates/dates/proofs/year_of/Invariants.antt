@@ -1,5 +1,5 @@
 -- `dates::year_of` meets its contract. Assumes nothing.
-use Prim.Native.Nat.{◌+◌, ◌-◌, ◌≤◌}
+use Prim.Native.Nat.{◌+◌, ◌≤◌}
 use Rattle.dates.specs.Counting.{before, days_of}
 use Rattle.dates.proofs.Passing.{Passing}
 use Rattle.dates.proofs.year_of.Given as goal

@@ -1,10 +1,6 @@
 -- `dropping::all_fit` meets its contract. Assumes nothing.
-use Prim.Native.Nat.{◌-◌}
 use Rattle.dropping.proofs.Fitting.{Sofar}
 use Rattle.dropping.proofs.all_fit.Given as goal
 
 abbrev pub invariant-loop-i : goal.invariant-loop-i
 invariant-loop-i l = Sofar l.sheet l.m l.n l.links l.many l.x l.y l.most l.past l.i
-
-abbrev pub decreases-loop-i : goal.decreases-loop-i
-decreases-loop-i l = l.many - l.i

@@ -6,4 +6,4 @@ pub returns-then-bytes-ne-RECORD_BYTES : goal.returns-then-bytes-ne-RECORD_BYTES
 returns-then-bytes-ne-RECORD_BYTES c = rw (ne_eqb _ _ c.if-bytes-ne-RECORD_BYTES.true)
 
 pub returns : goal.returns
-returns c = rw (eq-eqb _ _ c.if-bytes-ne-RECORD_BYTES.false, c.subset.ensures, c.byte.ensures.0, c.first_points-all.ensures, c.event_in-e.ensures.0, c.word_at.ensures)
+returns c = rw (eq-eqb _ _ c.if-bytes-ne-RECORD_BYTES.false, c.subset.ensures, c.from.ensures, c.first_points-all.ensures, c.event_in-e.ensures.0, c.word_at.ensures)

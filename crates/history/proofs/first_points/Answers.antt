@@ -1,8 +1,10 @@
 -- `history::first_points` meets its contract. Assumes nothing.
+use Rattle.std.proofs.Common.{◌≡◌, ℕ, ◌^◌, ◌-◌, ap, ◌∙◌, min, arith}
 use Rattle.points.specs.Sets.{below_of}
-use native.Mathlib.Nat.{min-eq_right}
 use Rattle.history.proofs.first_points.Goals as goal
 
-pub returns-else-n : goal.returns-else-n
+pub returns : goal.returns
 unfolding below_of
-returns-else-n c = rw (min-eq_right c.if-n.false) c.below-else-n.ensures
+returns c =
+    let e : min c.min.result 32 ≡ min c.args.n 32 = omega arith in
+    c.below.ensures ∙ ap (λ (k : ℕ). 2 ^ k - 1) e

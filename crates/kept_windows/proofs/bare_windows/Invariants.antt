@@ -1,10 +1,6 @@
 -- `kept_windows::bare_windows` meets its contract. Assumes nothing.
-use Prim.Native.Nat.{◌-◌}
 use Rattle.kept_windows.proofs.Opening.{Sofar}
 use Rattle.kept_windows.proofs.bare_windows.Given as goal
 
 abbrev pub invariant-loop-p : goal.invariant-loop-p
 invariant-loop-p l = Sofar l.kept l.points l.watched l.opens l.lows l.p
-
-abbrev pub decreases-loop-p : goal.decreases-loop-p
-decreases-loop-p l = l.p

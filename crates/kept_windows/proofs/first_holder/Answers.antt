@@ -1,29 +1,15 @@
 -- `kept_windows::first_holder` meets its contract. Assumes nothing.
-use native.Mathlib.Omega.{arith}
-use mathlib.Core.Path.{refl}
-use Rattle.neighbours.proofs.Walking.{seek_start, seek_turn, seek_found, seek_end, step}
+use Rattle.neighbours.proofs.Walking.{ahead_small, seek_turn, seek_found, seek_end}
 use Rattle.kept_windows.proofs.first_holder.Goals as goal
 
-pub loop-i-init : goal.loop-i-init
-loop-i-init c = seek_start _ _ _ _ c.start-i.ensures
+pub row_at-requires : goal.row_at-requires
+row_at-requires c = ahead_small c.loop-i.i-iterator c.in-Some.ensures.steps
 
 pub returns-then-still_holds : goal.returns-then-still_holds
-returns-then-still_holds c =
-    let l = c.loop-i in
-    let h = c.loop-i-test.true in
-    seek_found l.invariant (rw (c.still_holds.ensures, c.row_at.ensures) at c.if-still_holds.true) (step _ _ _ _ _ h (l.invariant.fuel h) refl refl)
-
-pub overflow_sub-left : goal.overflow_sub-left
-overflow_sub-left c = omega (arith, c.loop-i.invariant.fuel c.loop-i-test.true)
-
-pub loop-i-smaller : goal.loop-i-smaller
-loop-i-smaller c = omega (arith, c.loop-i.invariant.fuel c.loop-i-test.true)
+returns-then-still_holds c = seek_found _ c.loop-i.invariant c.in-Some.ensures.steps (rw (c.still_holds.ensures, c.row_at.ensures) at c.if-still_holds.true)
 
 pub loop-i-preserved : goal.loop-i-preserved
-loop-i-preserved c =
-    let l = c.loop-i in
-    let h = c.loop-i-test.true in
-    seek_turn l.invariant _ _ (rw (c.still_holds.ensures, c.row_at.ensures) at c.if-still_holds.false) (step _ _ _ _ _ h (l.invariant.fuel h) refl c.onward-i.ensures)
+loop-i-preserved c = seek_turn _ c.loop-i.invariant c.in-Some.ensures.steps (rw (c.still_holds.ensures, c.row_at.ensures) at c.if-still_holds.false)
 
 pub returns : goal.returns
-returns c = seek_end c.loop-i.invariant c.loop-i-test.false
+returns c = seek_end _ c.loop-i.invariant c.in-None.ensures.steps.0

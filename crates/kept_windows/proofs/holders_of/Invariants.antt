@@ -1,11 +1,6 @@
 -- `kept_windows::holders_of` meets its contract. Assumes nothing.
-use Prim.Native.Nat.{◌-◌}
-use Rattle.plan.specs.Limits.{most_points}
 use Rattle.kept_windows.proofs.Opening.{Collecting}
 use Rattle.kept_windows.proofs.holders_of.Given as goal
 
 abbrev pub invariant-loop-p : goal.invariant-loop-p
 invariant-loop-p l = Collecting l.rows l.out l.kept l.p l.holders
-
-abbrev pub decreases-loop-p : goal.decreases-loop-p
-decreases-loop-p l = most_points - l.p

@@ -6,5 +6,5 @@ use Rattle.lengths.proofs.length_from.Goals as goal
 pub returns-then-v-lt-NEVER : goal.returns-then-v-lt-NEVER
 returns-then-v-lt-NEVER c = length_there _ (omega (arith, c.if-v-lt-NEVER.true)) c.length_of.ensures
 
-pub returns : goal.returns
-returns c = length_none c.args.v (omega (arith, c.if-v-lt-NEVER.false)) c.no_length.ensures
+pub returns-else-v-lt-NEVER : goal.returns-else-v-lt-NEVER
+returns-else-v-lt-NEVER c = length_none c.args.v (omega (arith, c.if-v-lt-NEVER.false))

@@ -1,10 +1,6 @@
 -- `lengths::meet` meets its contract. Assumes nothing.
 use Rattle.lengths.proofs.Meeting.{Meeting}
-use Prim.Native.Nat.{◌-◌}
 use Rattle.lengths.proofs.meet.Given as goal
 
 abbrev pub invariant-loop-k : goal.invariant-loop-k
 invariant-loop-k l = Meeting l.n l.fall l.rise l.x l.y l.k l.best
-
-abbrev pub decreases-loop-k : goal.decreases-loop-k
-decreases-loop-k l = l.n - l.k

@@ -1,10 +1,6 @@
 -- `lighter::without` meets its contract. Assumes nothing.
-use Prim.Native.Nat.{◌-◌}
 use Rattle.lighter.proofs.Copying.{Copied}
 use Rattle.lighter.proofs.without.Given as goal
 
 abbrev pub invariant-loop-i : goal.invariant-loop-i
 invariant-loop-i l = Copied l.plan l.at l.n l.records l.i
-
-abbrev pub decreases-loop-i : goal.decreases-loop-i
-decreases-loop-i l = l.n - l.i

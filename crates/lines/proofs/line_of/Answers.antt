@@ -1,37 +1,6 @@
 -- `lines::line_of` meets its contract. Assumes nothing.
-use mathlib.Core.List.{[], ◌∷◌, ◌++◌}
-use lib.ListN.{take}
-use Rattle.lines.specs.Text.{piece_text, more_text}
-use Rattle.lines.proofs.WholeLine.{all_left, fits_next, less_left, none_left, five_fit}
+use Rattle.lines.proofs.WholeLine.{five_fit}
 use Rattle.lines.proofs.line_of.Goals as goal
 
-pub with_piece-requires : goal.with_piece-requires
-with_piece-requires c =
-    let s = c.args in
-    let more = more_text (take s.count s.more) in
-    let all = all_left _ _ c.blank.ensures (five_fit s.first s.more s.count c.requires) in
-    fits_next _ (piece_text s.first) (more ++ (10 ∷ [])) _ all
-
-pub with_more-line-requires : goal.with_more-line-requires
-with_more-line-requires c =
-    let s = c.args in
-    let more = more_text (take s.count s.more) in
-    let all = all_left _ _ c.blank.ensures (five_fit s.first s.more s.count c.requires) in
-    let less = less_left _ (piece_text s.first) (more ++ (10 ∷ [])) _ all _ c.with_piece.ensures in
-    (c.requires, fits_next _ more (10 ∷ []) _ less)
-
-pub with_byte-requires : goal.with_byte-requires
-with_byte-requires c =
-    let s = c.args in
-    let more = more_text (take s.count s.more) in
-    let all = all_left _ _ c.blank.ensures (five_fit s.first s.more s.count c.requires) in
-    let less = less_left _ (piece_text s.first) (more ++ (10 ∷ [])) _ all _ c.with_piece.ensures in
-    (less_left _ more (10 ∷ []) _ less _ c.with_more-line.ensures).fits
-
-pub returns : goal.returns
-returns c =
-    let s = c.args in
-    let more = more_text (take s.count s.more) in
-    let all = all_left _ _ c.blank.ensures (five_fit s.first s.more s.count c.requires) in
-    let less = less_left _ (piece_text s.first) (more ++ (10 ∷ [])) _ all _ c.with_piece.ensures in
-    none_left _ _ (10 ∷ []) _ (less_left _ more (10 ∷ []) _ less _ c.with_more-line.ensures) c.with_byte.ensures
+pub long_line-requires : goal.long_line-requires
+long_line-requires c = five_fit _ _ c.requires

@@ -1,6 +1,5 @@
 -- `lines::with_number` meets its contract. Assumes nothing.
 use mathlib.Core.Path.{◌∙◌}
-use Prim.Native.Nat.{◌-◌}
 use Rattle.lines.proofs.Adding.{room_here, room_on_byte, with_byte_on, next_of, none_of, with_nothing}
 use native.Mathlib.Omega.{arith}
 use Rattle.lines.proofs.with_number.Goals as goal

@@ -1,26 +1,14 @@
 -- `lines::with_word` meets its contract. Assumes nothing.
-use mathlib.Core.Path.{refl, ◌∙◌}
+use mathlib.Core.Path.{◌∙◌}
 use Rattle.lines.proofs.Adding.{room_here, room_on_byte, with_byte_on, with_nothing, no_letter, more_letters}
 use native.Mathlib.Omega.{arith}
 use Rattle.lines.proofs.with_word.Goals as goal
-
-pub loop-left-init : goal.loop-left-init
-loop-left-init c = (c.ranges.word.fits, c.requires, refl)
 
 pub bounds-next-at : goal.bounds-next-at
 bounds-next-at c =
     let l = c.loop-left in
     let e = more_letters l.left c.loop-left-test.true l.invariant.0 in
     omega (arith, room_here l.next _ _ _ e l.invariant.1)
-
-pub overflow_add-next : goal.overflow_add-next
-overflow_add-next c =
-    let l = c.loop-left in
-    let e = more_letters l.left c.loop-left-test.true l.invariant.0 in
-    omega (arith, room_here l.next _ _ _ e l.invariant.1)
-
-pub loop-left-smaller : goal.loop-left-smaller
-loop-left-smaller c = omega (arith, c.loop-left-test.true)
 
 pub loop-left-preserved : goal.loop-left-preserved
 loop-left-preserved c =

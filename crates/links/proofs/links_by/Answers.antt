@@ -1,12 +1,19 @@
 -- `links::links_by` meets its contract. Assumes nothing.
+use Rattle.std.proofs.Common.{Bool, true, false, eqb, get_or, ◌≤◌}
+use Rattle.plan.specs.APlan.{blank}
+use Rattle.std.specs.Int.{from_bool}
 use native.Mathlib.Omega.{arith}
-use Prim.Native.Nat.{◌-◌}
 use Rattle.plan.specs.APlan.{records_of}
 use Rattle.plan.proofs.Accepted.{accepted_plan}
 use Rattle.history.proofs.Tests.{both}
 use Rattle.plan.proofs.Records.{next_record, last_record, all_of}
 use Rattle.links.proofs.Linking.{links_none, other_turn, link_turn, past_link, links_stop}
 use Rattle.links.proofs.links_by.Goals as goal
+
+-- a bit is at most 1
+bit : (b : Bool) → from_bool b ≤ 1
+bit true = omega arith
+bit false = omega arith
 
 pub loop-i-init : goal.loop-i-init
 loop-i-init c =
@@ -19,7 +26,7 @@ loop-i-preserved-then-r-ne-LINK c =
     let i = c.loop-i.invariant in
     let k = c.loop-i.i in
     let w = next_record p i.2 _ i.1 k c.loop-i-test.true in
-    (omega arith, i.1, i.2, omega (arith, i.3, c.one_if-points.ensures.1), rw c.one_if-points.ensures.0 (other_turn (records_of p) k _ _ _ i.4 w.0 _ w.1 c.if-r-ne-LINK.true))
+    (omega arith, i.1, i.2, omega (arith, i.3, c.from-points.ensures, bit (eqb (get_or p.records k blank).kind 1)), rw c.from-points.ensures (other_turn (records_of p) k _ _ _ i.4 w.0 _ w.1 c.if-r-ne-LINK.true))
 
 pub loop-i-preserved : goal.loop-i-preserved
 loop-i-preserved c =

@@ -9,6 +9,6 @@ returns c =
     let s = c.says-said.ensures in
     record {
       shuts = rw s;
-      lows = rw (c.larger.ensures, s);
-      highs = rw (c.lesser.ensures, s);
+      lows = rw (c.max.ensures, s);
+      highs = rw (c.min.ensures, s);
     }

@@ -6,12 +6,6 @@ use mir.ValLaws.{to_z-of_z}
 use Rattle.lowhigh.specs.Inside.{says_of}
 use Rattle.lowhigh.proofs.says.Goals as goal
 
-pub ordinary-requires : goal.ordinary-requires
-ordinary-requires c =
-    let w = c.requires in
-    let gap = rw (to_z-of_z w32 c.args.r.first (sfits_of c.struct_told-1.given.1.1.1.0.1)) at c.split-gap.ensures in
-    (rw gap (w.ordinary_near (eq-eqb _ _ c.if-r-eq-ORDINARY.true)), w.from, w.to)
-
 pub returns-then-r-eq-ORDINARY : goal.returns-then-r-eq-ORDINARY
 unfolding says_of
 returns-then-r-eq-ORDINARY c =
@@ -23,12 +17,6 @@ returns-then-r-eq-ORDINARY c =
       c.has-ended.ensures,
       eq-eqb _ _ c.if-r-eq-ORDINARY.true,
     )
-
-pub wait-requires : goal.wait-requires
-wait-requires c =
-    let w = c.requires in
-    let gap = rw (to_z-of_z w32 c.args.r.first (sfits_of c.struct_told-1.given.1.1.1.0.1)) at c.split-gap.ensures in
-    (rw gap (w.wait_near (eq-eqb _ _ c.if-r-eq-WAIT.true)), w.start)
 
 pub returns-then-r-eq-WAIT : goal.returns-then-r-eq-WAIT
 unfolding says_of

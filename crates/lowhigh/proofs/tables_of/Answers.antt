@@ -1,7 +1,6 @@
 -- `lowhigh::tables_of` meets its contract. Assumes nothing.
 use native.Mathlib.Omega.{arith}
 use mathlib.Core.Path.{refl}
-use Prim.Native.Nat.{◌-◌}
 use lib.ListN.{length-set}
 use Rattle.plan.specs.APlan.{records_of}
 use Rattle.plan.proofs.Accepted.{accepted_plan}

@@ -1,9 +1,15 @@
 -- `made_files::lighter_file` meets its contract. Assumes nothing.
-use Rattle.made_files.proofs.OfPlans.{lighter_unread, lighter_made}
+use mathlib.Core.Path.{sym, ◌∙◌}
+use Rattle.made_files.proofs.OfPlans.{lighter_unread, lighter_refused, lighter_made}
 use Rattle.made_files.proofs.lighter_file.Goals as goal
 
-pub returns-then-reading-ne-ACCEPTED : goal.returns-then-reading-ne-ACCEPTED
-returns-then-reading-ne-ACCEPTED c = lighter_unread _ _ _ _ c.read-reading.ensures _ c.if-reading-ne-ACCEPTED.true c.answer.ensures
+pub returns-in-Err : goal.returns-in-Err
+returns-in-Err c = lighter_unread _ _ _ c.in-Err.refusal (sym c.in-Err.is ∙ c.read.ensures) _ c.answer-in-Err.ensures
 
-pub returns : goal.returns
-returns c = let p = c.put_lighter.ensures in lighter_made _ _ _ _ c.read-reading.ensures _ _ _ _ c.if-reading-ne-ACCEPTED.false c.lighter_of.ensures p.reply p.bytes p.dropped
+pub returns-in-Ok-lighter_of : goal.returns-in-Ok-lighter_of
+returns-in-Ok-lighter_of c =
+    let p = c.put_lighter.ensures in
+    lighter_made _ _ _ c.in-Ok.plan (sym c.in-Ok.is ∙ c.read.ensures) _ _ _ _ c.in-Ok-lighter_of.ensures p.reply p.bytes p.dropped
+
+pub returns-in-Err-lighter_of : goal.returns-in-Err-lighter_of
+returns-in-Err-lighter_of c = lighter_refused _ _ _ c.in-Ok.plan (sym c.in-Ok.is ∙ c.read.ensures) _ _ c.in-Err-lighter_of.ensures c.answer.ensures

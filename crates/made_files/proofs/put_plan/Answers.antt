@@ -1,5 +1,4 @@
 -- `made_files::put_plan` meets its contract. Assumes nothing.
-use mathlib.Core.Path.{refl}
 use Rattle.made_files.proofs.OfPlans.{filed_answer_lem}
 use Rattle.made_files.proofs.put_plan.Goals as goal
 
@@ -7,6 +6,6 @@ pub returns : goal.returns
 returns c =
     let f = c.file_plan-filed.ensures in
     record {
-      reply = filed_answer_lem _ _ _ _ _ refl f.reply c.answer_with.ensures;
+      reply = filed_answer_lem c.args.made c.args.out.now _ _ _ f.reply c.count_in.ensures c.answer_with.ensures;
       bytes = f.bytes;
     }

@@ -8,6 +8,3 @@ use Rattle.neighbours.proofs.build.Given as goal
 
 abbrev pub invariant-loop-i : goal.invariant-loop-i
 invariant-loop-i l = (l.i ≤ l.count) × (l.field < width) × (l.count ≤ most_records) × Built (key_at l.rows l.least l.field) l.count l.i (l.count - l.i) l.list
-
-abbrev pub decreases-loop-i : goal.decreases-loop-i
-decreases-loop-i l = l.i

@@ -33,13 +33,13 @@ pub loop-i-preserved-in-Comma : goal.loop-i-preserved-in-Comma
 loop-i-preserved-in-Comma c =
     let a = c.args in
     let l = c.loop-i in
-    (l.invariant.0, (l.invariant.1.0, feeds_comma a.piece.now l.i l.lines l.records l.commas l.cells l.spot _ l.invariant.1.1 _ c.walk_from-gone.ensures c.in-Comma.is _ c.one_more-commas.ensures _ c.begin-spot.ensures))
+    (l.invariant.0, (l.invariant.1.0, feeds_comma a.piece.now l.i l.lines l.records l.commas l.cells l.spot _ l.invariant.1.1 _ c.walk_from-gone.ensures c.in-Comma.is _ (omega (arith, c.min-commas.ensures, c.saturating_add.ensures)) _ c.begin-spot.ensures))
 
-pub returns-in_default : goal.returns-in_default
-returns-in_default c =
+pub returns-in-Err : goal.returns-in-Err
+returns-in-Err c =
     let a = c.args in
     let l = c.loop-i in
-    feeds_bad a.piece.now l.i l.lines l.records l.commas l.cells l.spot _ l.invariant.1.1 _ c.walk_from-gone.ensures c.in-Ends.is _ c.line_of-line.ensures _ c.in_default.is _ c.number_in.ensures _ c.stop.ensures ∙ ap (λ f. fed_of f a.piece.now) (opened a.state c.if-state-ne-ACCEPTED.false)
+    feeds_bad a.piece.now l.i l.lines l.records l.commas l.cells l.spot _ l.invariant.1.1 _ c.walk_from-gone.ensures c.in-Ends.is _ c.line_of.ensures _ c.in-Err.is _ c.stop.ensures ∙ ap (λ f. fed_of f a.piece.now) (opened a.state c.if-state-ne-ACCEPTED.false)
 
 pub loop-i-smaller : goal.loop-i-smaller
 loop-i-smaller c =
@@ -51,7 +51,7 @@ pub loop-i-preserved : goal.loop-i-preserved
 loop-i-preserved c =
     let a = c.args in
     let l = c.loop-i in
-    (l.invariant.0, (l.invariant.1.0, feeds_line a.piece.now l.i l.lines l.records l.commas l.cells l.spot _ l.invariant.1.1 _ c.walk_from-gone.ensures c.in-Ends.is _ c.line_of-line.ensures _ c.in-Good.is _ c.one_more-lines.ensures _ l.invariant.1.0 _ c.begin-spot-in-Ends.ensures))
+    (l.invariant.0, (l.invariant.1.0, feeds_line a.piece.now l.i l.lines l.records l.commas l.cells l.spot _ l.invariant.1.1 _ c.walk_from-gone.ensures c.in-Ends.is _ c.line_of.ensures _ c.in-Ok.is _ c.saturating_add-lines.ensures _ l.invariant.1.0 _ c.begin-spot-in-Ok.ensures))
 
 pub returns-in-Broken : goal.returns-in-Broken
 returns-in-Broken c =

@@ -14,12 +14,12 @@ returns-then-not-may_end c =
     let a = c.args in
     last_broken a.state _ c.is_at_begin.ensures c.if-state-is_at_begin.false _ c.may_end.ensures (ap not c.if-not-may_end.true) _ c.stop.ensures
 
-pub returns-in_default : goal.returns-in_default
-returns-in_default c =
+pub returns-in-Err : goal.returns-in-Err
+returns-in-Err c =
     let a = c.args in
-    last_bad a.state _ c.is_at_begin.ensures c.if-state-is_at_begin.false _ c.may_end.ensures (ap not c.if-not-may_end.false) _ c.line_of-line.ensures _ c.in_default.is _ c.number_in.ensures _ c.stop-in_default.ensures
+    last_bad a.state _ c.is_at_begin.ensures c.if-state-is_at_begin.false _ c.may_end.ensures (ap not c.if-not-may_end.false) _ c.line_of.ensures _ c.in-Err.is _ c.stop-in-Err.ensures
 
-pub returns : goal.returns
-returns c =
+pub returns-in-Ok : goal.returns-in-Ok
+returns-in-Ok c =
     let a = c.args in
-    last_good a.state _ c.is_at_begin.ensures c.if-state-is_at_begin.false _ c.may_end.ensures (ap not c.if-not-may_end.false) _ c.line_of-line.ensures _ c.in-Good.is _ c.one_more.ensures _ c.at_line.ensures
+    last_good a.state _ c.is_at_begin.ensures c.if-state-is_at_begin.false _ c.may_end.ensures (ap not c.if-not-may_end.false) _ c.line_of.ensures _ c.in-Ok.is _ c.saturating_add.ensures _ c.at_line.ensures

@@ -1,14 +1,10 @@
 -- `pairs::in_row` meets its contract. Assumes nothing.
-use native.Mathlib.Omega.{arith}
 use Rattle.tables.specs.Entries.{raw}
 use Rattle.pairs.proofs.Searches.{is_undercut, is_kept_lem, stops, goes_on_lem, clean_row}
 use Rattle.pairs.proofs.in_row.Goals as goal
 
-pub loop-y-init : goal.loop-y-init
-loop-y-init c = record { within = omega arith; before = λ Y h. absurd (omega arith) }
-
 pub returns-then-undercut : goal.returns-then-undercut
-returns-then-undercut c = stops c.loop-y.invariant (is_undercut (raw c.args.all.now c.args.x c.loop-y.y) (raw c.args.ways.now c.args.x c.loop-y.y) c.undercut.ensures c.if-undercut.true)
+returns-then-undercut c = stops c.loop-y.invariant c.loop-y-test.true (is_undercut (raw c.args.all.now c.args.x c.loop-y.y) (raw c.args.ways.now c.args.x c.loop-y.y) c.undercut.ensures c.if-undercut.true)
 
 pub loop-y-preserved : goal.loop-y-preserved
 loop-y-preserved c = goes_on_lem c.loop-y.invariant c.loop-y-test.true (is_kept_lem (raw c.args.all.now c.args.x c.loop-y.y) (raw c.args.ways.now c.args.x c.loop-y.y) c.undercut.ensures c.if-undercut.false)

@@ -1,11 +1,7 @@
 -- `pairs::in_row` meets its contract. Assumes nothing.
-use Prim.Native.Nat.{◌-◌}
 use Rattle.tables.specs.Entries.{at}
 use Rattle.pairs.proofs.Searches.{Clean}
 use Rattle.pairs.proofs.in_row.Given as goal
 
 abbrev pub invariant-loop-y : goal.invariant-loop-y
 invariant-loop-y l = Clean l.n (at l.all) (at l.ways) l.x l.y
-
-abbrev pub decreases-loop-y : goal.decreases-loop-y
-decreases-loop-y l = l.n - l.y

@@ -1,7 +1,8 @@
 -- `plan::count_of` meets its contract. Assumes nothing.
-use mathlib.Core.Path.{refl, ◌∙◌}
+use mathlib.Core.Path.{◌≡◌, refl, ◌∙◌}
 use native.Mathlib.Omega.{arith}
-use Prim.Native.Nat.{◌<◌, ◌-◌, min}
+use Prim.Native.Nat.{◌<◌, ◌+◌, min}
+use lib.ListN.{take}
 use Rattle.plan.specs.Limits.{most_records}
 use Rattle.plan.specs.APlan.{how_many, records_of}
 use Rattle.plan.specs.Inside.{of_byte}
@@ -24,8 +25,8 @@ overflow_add-n c =
     let h : k < min p.count most_records = omega (arith, c.loop-i-test.true, i.1) in
     let n = used_records p i.2 in
     let r = record_at_lem p i.2 k h in
-    let few = counted_few (of_byte s.kind) (records_of p) k (omega (arith, n)) in
-    omega (arith, i.3, c.one_if-n.ensures.1, few)
+    let e : c.loop-i.n + c.from-n.result ≡ how_many (of_byte s.kind) (take (k + 1) (records_of p)) = rw (c.from-n.ensures, i.3, ← r) (counted_more (of_byte s.kind) (records_of p) k (omega (arith, n))) in
+    omega (arith, counted_few (of_byte s.kind) (records_of p) (k + 1) (omega (arith, n)))
 
 pub loop-i-preserved : goal.loop-i-preserved
 loop-i-preserved c =
@@ -36,7 +37,7 @@ loop-i-preserved c =
     let h : k < min p.count most_records = omega (arith, c.loop-i-test.true, i.1) in
     let n = used_records p i.2 in
     let r = record_at_lem p i.2 k h in
-    (omega arith, i.1, i.2, rw (c.one_if-n.ensures.0, i.3, ← r) (counted_more (of_byte s.kind) (records_of p) k (omega (arith, n))))
+    (omega arith, i.1, i.2, rw (c.from-n.ensures, i.3, ← r) (counted_more (of_byte s.kind) (records_of p) k (omega (arith, n))))
 
 pub returns : goal.returns
 returns c =

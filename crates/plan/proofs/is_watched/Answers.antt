@@ -1,15 +1,9 @@
 -- `plan::is_watched` meets its contract. Assumes nothing.
-use mathlib.Core.Path.{sym, ap, ◌∙◌}
+use mathlib.Core.Path.{◌∙◌, ap}
+use Rattle.std.specs.Prelude.{is_some}
 use Rattle.plan.specs.APlan.{ends_at, records_of}
-use Rattle.plan.proofs.Lookup.{is_at, found_some}
+use Rattle.plan.proofs.Lookup.{found_some}
 use Rattle.plan.proofs.is_watched.Goals as goal
 
-pub returns-in-At : goal.returns-in-At
-returns-in-At c =
-    let s = c.args in
-    sym (ap is_at c.in-At.is) ∙ ap is_at c.link_to.ensures ∙ found_some (ends_at s.p) 0 (records_of s.plan)
-
-pub returns-in-Nothing : goal.returns-in-Nothing
-returns-in-Nothing c =
-    let s = c.args in
-    sym (ap is_at c.in-Nothing.is) ∙ ap is_at c.link_to.ensures ∙ found_some (ends_at s.p) 0 (records_of s.plan)
+pub returns : goal.returns
+returns c = c.is_some.ensures ∙ ap is_some c.link_to.ensures ∙ found_some (ends_at c.args.p) 0 (records_of c.args.plan)

@@ -1,7 +1,7 @@
 -- `plan::link_to` meets its contract. Assumes nothing.
 use mathlib.Core.Path.{refl, sym, ◌∙◌}
 use native.Mathlib.Omega.{arith}
-use Prim.Native.Nat.{◌<◌, ◌-◌, min}
+use Prim.Native.Nat.{◌<◌, min}
 use Rattle.plan.specs.Limits.{most_records}
 use Rattle.plan.specs.APlan.{ends_at, records_of}
 use Rattle.plan.proofs.Records.{used_records, record_at_lem}

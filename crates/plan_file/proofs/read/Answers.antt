@@ -1,6 +1,6 @@
 -- `plan_file::read` meets its contract. Assumes nothing.
 use native.Mathlib.Omega.{arith}
-use mathlib.Core.Path.{ap, ◌∙◌}
+use mathlib.Core.Path.{refl, ap, ◌∙◌}
 use Rattle.plan.specs.ReplyNumbers.{check_of}
 use Rattle.plan_file.proofs.Answers.{read_none, read_part, read_long, read_bad, read_plan}
 use Rattle.plan_file.proofs.read.Goals as goal
@@ -35,7 +35,7 @@ returns-then-found-ne-ACCEPTED c =
     c.first_bad-found.ensures
     (omega (arith, c.if-found-ne-ACCEPTED.true))
     _
-    c.refuse-then-found-ne-ACCEPTED.ensures
+    refl
 
 pub returns : goal.returns
 returns c =

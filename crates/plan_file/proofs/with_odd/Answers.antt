@@ -1,4 +1,5 @@
 -- `plan_file::with_odd` meets its contract. Assumes nothing.
+use mathlib.Core.Path.{◌∙◌}
 use Rattle.plan_file.proofs.Odd.{odd_stays, odd_seven}
 use Rattle.plan_file.proofs.with_odd.Goals as goal
 
@@ -8,4 +9,4 @@ returns-then-found-sooner c = let s = c.args in odd_stays s.odd s.found c.if-fou
 pub returns-else-found-sooner : goal.returns-else-found-sooner
 returns-else-found-sooner c =
     let s = c.args in
-    odd_seven s.odd s.found c.if-found-sooner.false
+    c.new.ensures ∙ odd_seven s.odd s.found c.if-found-sooner.false

@@ -26,7 +26,7 @@ returns-then-out-plan c =
     let o = c.args.out.now in
     let w = write_short p o (rw c.check-found.ensures at (eq-eqb _ _ c.if-found-ne-ACCEPTED.false)) (lt-ltb (length o) (record_bytes * p.count) (omega (arith, c.if-out-plan.true))) in
     record {
-      reply = sym w.0;
+      reply = c.new.ensures ∙ sym w.0;
       bytes = sym w.1;
     }
 

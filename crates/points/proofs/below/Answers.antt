@@ -1,13 +1,9 @@
 -- `points::below` meets its contract. Assumes nothing.
 use native.Mathlib.Nat.{min-eq_left, min-eq_right, le_of_lt}
 use native.Mathlib.Omega.{arith}
-use lib.Pow.{pow_pos}
 use Rattle.points.specs.Sets.{below_of}
 use Rattle.points.proofs.Shift.{one_shl}
 use Rattle.points.proofs.below.Goals as goal
-
-pub overflow_sub-result : goal.overflow_sub-result
-overflow_sub-result c = omega (arith, one_shl _ c.if-n-lt-MOST.true, pow_pos c.args.n)
 
 pub returns-then-n-lt-MOST : goal.returns-then-n-lt-MOST
 unfolding below_of

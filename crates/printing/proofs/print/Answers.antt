@@ -10,7 +10,7 @@ use Rattle.printing.proofs.print.Goals as goal
 pub turn-stage-requires : goal.turn-stage-requires
 turn-stage-requires c =
     let r = c.read_on-n in
-    (omega (arith, c.loop-turns.invariant.3), λ e. omega (arith, length-take-le r.result r.new.chunk r.ensures.room, ltb-true r.result 16 (both (eqb r.result c.loop-turns.at) (ltb r.result 16) e).1))
+    (omega (arith, c.loop.invariant.3), λ e. omega (arith, length-take-le r.result r.new.chunk r.ensures.room, ltb-true r.result 16 (both (eqb r.result c.loop.at) (ltb r.result 16) e).1))
 
 pub carry-at-requires : goal.carry-at-requires
 carry-at-requires c =

@@ -1,5 +1,5 @@
 -- `projection::judge` meets its contract. Assumes nothing.
-use Rattle.projection.proofs.Judges.{some_cycle, may_judge}
+use Rattle.projection.proofs.Judges.{some_cycle}
 use Rattle.projection.specs.Findings.{has_cycle_lem}
 use mathlib.Core.Path.{ap}
 use mathlib.Core.Bool.{not}
@@ -7,9 +7,3 @@ use Rattle.projection.proofs.judge.Goals as goal
 
 pub returns-then-not-fill : goal.returns-then-not-fill
 returns-then-not-fill c = has_cycle_lem (some_cycle c.fill.result (ap not c.if-not-fill.true) c.fill.ensures)
-
-pub judge_by-requires : goal.judge_by-requires
-judge_by-requires c = may_judge _ _ _ _ c.requires _ c.fill.result (ap not c.if-not-fill.false) c.fill.ensures
-
-pub returns : goal.returns
-returns c = c.judge_by.ensures

@@ -22,5 +22,5 @@ first_pair-requires c = c.requires.ready.few
 pub returns-in-None : goal.returns-in-None
 returns-in-None c = let p = c.requires in is_good (judged_good _ _ _ _ p.ready _ true refl p.filled _ c.settle.ensures (rw c.in-None.is at c.first_pair.ensures))
 
-pub returns-in-At : goal.returns-in-At
-returns-in-At c = let p = c.requires in has_pair (judged_pair _ _ _ _ p.ready _ true refl p.filled _ c.settle.ensures (rw c.in-At.is at c.first_pair.ensures))
+pub returns-in-Some : goal.returns-in-Some
+returns-in-Some c = let p = c.requires in has_pair (judged_pair _ _ _ _ p.ready _ true refl p.filled _ c.settle.ensures (rw c.in-Some.is at c.first_pair.ensures))

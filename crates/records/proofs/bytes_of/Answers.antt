@@ -1,18 +1,19 @@
 -- `records::bytes_of` meets its contract. Assumes nothing.
-use borrow.Author.Rules.{sfits_of}
-use mathlib.Core.Path.{◌≡◌}
-use mir.Syntax.{w32}
-use mir.ValLaws.{to_z-of_z}
+use Rattle.std.proofs.Common.{◌∙◌, ap, arith}
+use Rattle.std.specs.Int.{to_le_bytes, w32}
+use Rattle.std.proofs.lemmas.Int.{to_z-of_z}
 use Rattle.numbers.specs.Numbers.{bits_of}
 use Rattle.records.specs.Bytes.{bytes_of}
+use Rattle.numbers.proofs.Words.{le_bytes}
 use Rattle.records.proofs.bytes_of.Goals as goal
 
 pub returns : goal.returns
 unfolding bytes_of
 returns c =
     let r = c.args.r in
-    let f : c.bits-f.result ≡ bits_of r.first =
-    rw (to_z-of_z w32 r.first (sfits_of c.struct_told-1.given.1.1.1.0.1)) at c.bits-f.ensures in
-    let s : c.bits-s.result ≡ bits_of r.second =
-    rw (to_z-of_z w32 r.second (sfits_of c.struct_told-2-1.given.1.1.1.1.0.1)) at c.bits-s.ensures in
-    rw (f, s)
+    let first = c.bits.ensures ∙ ap bits_of (to_z-of_z w32 r.first (record { sfits = omega arith })) in
+    let second = c.bits-2.ensures ∙ ap bits_of (to_z-of_z w32 r.second (record { sfits = omega arith })) in
+    let e = c.to_le_bytes.ensures ∙ ap (to_le_bytes w32) first ∙ le_bytes _ in
+    let f = c.to_le_bytes-2.ensures ∙ ap (to_le_bytes w32) second ∙ le_bytes _ in
+    let g = c.to_le_bytes-3.ensures ∙ le_bytes _ in
+    rw (e, f, g)

@@ -1,7 +1,7 @@
 -- `records::put_records` meets its contract. Assumes nothing.
 use native.Mathlib.Omega.{arith}
 use mathlib.Core.Path.{◌≡◌, refl, ◌∙◌}
-use Prim.Native.Nat.{◌<◌, ◌-◌}
+use Prim.Native.Nat.{◌<◌}
 use lib.ListN.{length, take, get_or}
 use Rattle.records.specs.Records.{blank}
 use Rattle.records.specs.Bytes.{all_bytes}

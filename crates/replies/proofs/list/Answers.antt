@@ -2,7 +2,6 @@
 use native.Mathlib.Omega.{arith}
 use mathlib.Core.Path.{ap}
 use mathlib.Core.List.{List}
-use Prim.Native.Nat.{◌-◌}
 use Rattle.replies.specs.declared.Place.{Place}
 use Rattle.replies.proofs.Replying.{listed_start, listed_turn, listed_end}
 use Rattle.replies.proofs.list.Goals as goal

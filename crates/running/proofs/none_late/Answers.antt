@@ -1,44 +1,17 @@
 -- `running::none_late` meets its contract. Assumes nothing.
-use native.Mathlib.Omega.{arith}
-use mathlib.Core.Path.{refl, sym, ◌∙◌}
-use Rattle.points.proofs.Laws.{turn}
-use Rattle.history.proofs.Walks.{members_fails, members_turn, members_end}
+use Rattle.points.proofs.Walks.{every_passed, every_failed, every_done}
 use Rattle.running.specs.ByTable.{not_late_at}
 use Rattle.running.proofs.none_late.Goals as goal
-
-pub loop-rest-init : goal.loop-rest-init
-loop-rest-init c = (omega (arith, c.well_formed.0.1.1.1.0.1), refl)
-
-pub offset_bounds-links-place : goal.offset_bounds-links-place
-offset_bounds-links-place c =
-    let u = turn _ _ _ (omega arith) c.loop-rest.invariant.0 c.first-p.ensures refl in
-    omega (arith, u.first.small)
-
-pub bounds-links-place : goal.bounds-links-place
-bounds-links-place c =
-    let u = turn _ _ _ (omega arith) c.loop-rest.invariant.0 c.first-p.ensures refl in
-    omega (arith, u.first.small)
 
 pub returns-then-not-not_late : goal.returns-then-not-not_late
 returns-then-not-not_late c =
     let a = c.args in
-    let i = c.loop-rest.invariant in
-    let u = turn _ _ _ (omega arith) i.0 c.first-p.ensures refl in
-    let f = rw (c.not_late.ensures, c.minute_at.ensures) at (c.if-not-not_late.true) in
-    members_fails (not_late_at a.links a.done a.minutes a.t a.set) _ _ _ u f ∙ i.1
+    every_failed (not_late_at a.links a.done a.minutes a.t a.set) c.loop-p.invariant c.in-Some.ensures.steps.yields (rw (c.not_late.ensures, c.minute_at.ensures) at c.if-not-not_late.true)
 
-pub loop-rest-smaller : goal.loop-rest-smaller
-loop-rest-smaller c =
-    let u = turn _ _ _ (omega arith) c.loop-rest.invariant.0 c.first-p.ensures c.without-rest.ensures in
-    omega arith
-
-pub loop-rest-preserved : goal.loop-rest-preserved
-loop-rest-preserved c =
+pub loop-p-preserved : goal.loop-p-preserved
+loop-p-preserved c =
     let a = c.args in
-    let i = c.loop-rest.invariant in
-    let u = turn _ _ _ (omega arith) i.0 c.first-p.ensures c.without-rest.ensures in
-    let f = rw (c.not_late.ensures, c.minute_at.ensures) at (c.if-not-not_late.false) in
-    (u.fits, sym (members_turn (not_late_at a.links a.done a.minutes a.t a.set) _ _ _ u f) ∙ i.1)
+    every_passed (not_late_at a.links a.done a.minutes a.t a.set) c.loop-p.invariant c.in-Some.ensures.steps.yields (rw (c.not_late.ensures, c.minute_at.ensures) at c.if-not-not_late.false)
 
 pub returns : goal.returns
-returns c = members_end _ ∙ rw c.loop-rest-test.false at c.loop-rest.invariant.1
+returns c = every_done _ c.loop-p.invariant c.in-None.ensures.steps.yields.0

@@ -1,13 +1,8 @@
--- `running::none_late` meets its contract. Assumes nothing.
-use mathlib.Core.Path.{◌≡◌}
-use Prim.Native.Nat.{◌<◌, ◌^◌}
-use Rattle.points.specs.Sets.{members_of, every, count_of}
+-- `running::none_late` meets its contract: what is left is so where all are. Assumes nothing.
+use Rattle.std.proofs.Common.{◌≡◌}
+use Rattle.points.specs.Sets.{members_of, every}
 use Rattle.running.specs.ByTable.{not_late_at}
 use Rattle.running.proofs.none_late.Given as goal
 
-abbrev pub invariant-loop-rest : goal.invariant-loop-rest
-invariant-loop-rest l =
-    (l.rest < 2 ^ 32) × (every (not_late_at l.links l.done l.minutes l.t l.set) (members_of l.rest) ≡ every (not_late_at l.links l.done l.minutes l.t l.set) (members_of l.links.watched))
-
-abbrev pub decreases-loop-rest : goal.decreases-loop-rest
-decreases-loop-rest l = count_of l.rest
+abbrev pub invariant-loop-p : goal.invariant-loop-p
+invariant-loop-p l = every (not_late_at l.links l.done l.minutes l.t l.set) l.p-iterator ≡ every (not_late_at l.links l.done l.minutes l.t l.set) (members_of l.links.watched)

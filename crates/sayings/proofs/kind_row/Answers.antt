@@ -1,17 +1,26 @@
--- `sayings::kind_row_lem` meets its contract. Assumes nothing.
-use mathlib.Core.Path.{◌∙◌}
-use Rattle.sayings.proofs.Rowing.{row_none, row_few, row_wrong, row_good}
+-- `sayings::kind_row` meets its contract. Assumes nothing.
+use mathlib.Core.Path.{sym, ◌∙◌}
 use native.Mathlib.Omega.{arith}
+use Rattle.sayings.proofs.Rowing.{row_fits, row_few, row_wrong, row_good, err_on}
 use Rattle.sayings.proofs.kind_row.Goals as goal
 
-pub returns-then-k-eq0 : goal.returns-then-k-eq0
-returns-then-k-eq0 c = c.bad.ensures ∙ row_none _ _ _ c.if-k-eq0.true
+pub returns-then-words-places : goal.returns-then-words-places
+returns-then-words-places c =
+    let a = c.args in
+    row_few a.kind a.words a.cells _ c.places_of-places.ensures (omega arith) (omega (arith, c.if-words-places.true))
 
-pub returns-then-words-p : goal.returns-then-words-p
-returns-then-words-p c = c.bad-then-words-p.ensures ∙ row_few _ _ _ c.if-k-eq0.false _ c.places_of-p.ensures (λ e. omega (arith, c.if-words-p.true, e))
+pub all_hold-requires : goal.all_hold-requires
+all_hold-requires c =
+    let a = c.args in
+    row_fits a.kind a.words a.cells _ c.places_of-places.ensures (omega arith)
 
-pub returns-then-n-ne0 : goal.returns-then-n-ne0
-returns-then-n-ne0 c = c.bad-then-n-ne0.ensures ∙ row_wrong _ _ _ c.if-k-eq0.false _ c.places_of-p.ensures (omega (arith, c.if-words-p.false)) _ c.wrong_by-n.ensures c.if-n-ne0.true
+pub returns-in_err-all_hold : goal.returns-in_err-all_hold
+returns-in_err-all_hold c =
+    let a = c.args in
+    err_on _ _ c.from_residual.ensures.1
+    ∙ row_wrong a.kind a.words a.cells _ c.places_of-places.ensures (omega arith) (omega arith) _ (sym c.in_err-all_hold.was ∙ c.all_hold.ensures)
 
 pub returns : goal.returns
-returns c = row_good _ _ _ c.if-k-eq0.false _ c.places_of-p.ensures (omega (arith, c.if-words-p.false)) _ c.wrong_by-n.ensures c.if-n-ne0.false _ c.said_by-said.ensures
+returns c =
+    let a = c.args in
+    rw c.said_by.ensures (row_good a.kind a.words a.cells _ c.places_of-places.ensures (omega arith) (omega arith) (sym c.in_ok-all_hold.was ∙ c.all_hold.ensures))

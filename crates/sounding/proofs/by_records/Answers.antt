@@ -5,4 +5,4 @@ use Rattle.sounding.proofs.by_records.Goals as goal
 pub returns : goal.returns
 returns c =
     let e = rw c.first_points.ensures at c.sound_else.ensures in
-    λ i. e i && (c.every_record.ensures i && c.every_record-2.ensures i)
+    λ i. e i && (c.all_in_bounds.ensures i && c.all_earlier.ensures i)

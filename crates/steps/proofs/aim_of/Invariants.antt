@@ -8,6 +8,3 @@ use Rattle.steps.proofs.aim_of.Given as goal
 
 abbrev pub invariant-loop-q : goal.invariant-loop-q
 invariant-loop-q l = (l.q ≤ most_points) × (nearest_from (low_by l.kept l.starts l.n) l.found (from l.q (most_points - l.q)) ≡ nearest (low_by l.kept l.starts l.n))
-
-abbrev pub decreases-loop-q : goal.decreases-loop-q
-decreases-loop-q l = most_points - l.q

@@ -8,6 +8,3 @@ use Rattle.steps.proofs.end_of.Given as goal
 
 abbrev pub invariant-loop-c : goal.invariant-loop-c
 invariant-loop-c l = (l.c ≤ most_points) × (nearest_from (end_by l.kept l.starts l.durations) l.found (from l.c (most_points - l.c)) ≡ nearest (end_by l.kept l.starts l.durations))
-
-abbrev pub decreases-loop-c : goal.decreases-loop-c
-decreases-loop-c l = most_points - l.c

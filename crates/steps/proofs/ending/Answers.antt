@@ -7,15 +7,15 @@ use Rattle.steps.proofs.Nearest.{set_turn, set_end}
 use native.Mathlib.Omega.{arith}
 use Rattle.steps.proofs.ending.Goals as goal
 
-pub loop-left-init : goal.loop-left-init
+pub loop-c-init : goal.loop-c-init
 unfolding set_of from
-loop-left-init c = (omega arith, refl)
+loop-c-init c = (omega arith, refl)
 
 pub end_by-end-requires : goal.end_by-end-requires
-end_by-end-requires c = omega (arith, c.loop-left.invariant.0)
+end_by-end-requires c = omega (arith, c.loop-c.invariant.0)
 
-pub loop-left-preserved : goal.loop-left-preserved
-loop-left-preserved c = (omega arith, set_turn _ _ (omega arith) (omega arith) c.loop-left.invariant.1 (rw c.end_by-end.ensures at c.with_if-set.ensures))
+pub loop-c-preserved : goal.loop-c-preserved
+loop-c-preserved c = (omega arith, set_turn _ _ (omega arith) (omega arith) c.loop-c.invariant.1 (rw c.end_by-end.ensures at c.with_if-set.ensures))
 
 pub returns : goal.returns
-returns c = set_end _ _ (omega arith) c.loop-left.invariant.1
+returns c = set_end _ _ (omega arith) c.loop-c.invariant.1

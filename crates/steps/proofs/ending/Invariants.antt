@@ -7,8 +7,5 @@ use Rattle.promise.specs.Plays.{set_of}
 use Rattle.steps.specs.Found.{ends_then}
 use Rattle.steps.proofs.ending.Given as goal
 
-abbrev pub invariant-loop-left : goal.invariant-loop-left
-invariant-loop-left l = (l.left ≤ most_points) × (l.set ≡ set_of (ends_then l.kept l.starts l.durations l.t) (from l.left (most_points - l.left)))
-
-abbrev pub decreases-loop-left : goal.decreases-loop-left
-decreases-loop-left l = l.left
+abbrev pub invariant-loop-c : goal.invariant-loop-c
+invariant-loop-c l = (l.c ≤ most_points) × (l.set ≡ set_of (ends_then l.kept l.starts l.durations l.t) (from l.c (most_points - l.c)))

@@ -5,20 +5,20 @@ use Rattle.steps.proofs.Starting.{filled_start, filled_turn, filled_end}
 use native.Mathlib.Omega.{arith}
 use Rattle.steps.proofs.starts_of.Goals as goal
 
-pub loop-left-init : goal.loop-left-init
-loop-left-init c = filled_start _ _
+pub loop-q-init : goal.loop-q-init
+loop-q-init c = filled_start _ _
 
 pub row_at-row-requires : goal.row_at-row-requires
-row_at-row-requires c = omega (arith, c.requires, c.loop-left.invariant.near)
+row_at-row-requires c = omega (arith, c.requires, c.loop-q.invariant.near)
 
-pub loop-left-preserved : goal.loop-left-preserved
-loop-left-preserved c =
+pub loop-q-preserved : goal.loop-q-preserved
+loop-q-preserved c =
     filled_turn
-    c.loop-left.invariant
-    (omega (arith, c.loop-left-test.true))
+    c.loop-q.invariant
+    (omega (arith, c.loop-q-test.true))
     c.row_at-row.ensures
     c.place-c.ensures
     (c.pick.ensures ∙ rw c.place.ensures)
 
 pub returns : goal.returns
-returns c = filled_end c.loop-left.invariant (omega arith)
+returns c = filled_end c.loop-q.invariant (omega arith)

@@ -1,7 +1,6 @@
 -- `verdict::first_broken` meets its contract. Assumes nothing.
 use native.Mathlib.Omega.{arith}
 use mathlib.Core.Path.{refl, sym, ◌∙◌}
-use Prim.Native.Nat.{◌-◌}
 use Rattle.plan.specs.APlan.{records_of}
 use Rattle.plan.proofs.Accepted.{accepted_plan}
 use Rattle.plan.proofs.Records.{next_record, last_record}

@@ -1,14 +1,9 @@
--- `windows::least_high` meets its contract. Assumes nothing.
-use mathlib.Core.Path.{◌≡◌}
-use Prim.Native.Nat.{◌<◌, ◌≤◌, ◌^◌, min}
-use Rattle.points.specs.Sets.{count_of, members_of}
+-- `windows::least_high` meets its contract: with what is left it is the least of all. Assumes nothing.
+use Rattle.std.proofs.Common.{◌≡◌, ◌≤◌, min}
+use Rattle.points.specs.Sets.{members_of}
 use Rattle.lowhigh.specs.Rules.{never}
 use Rattle.windows.specs.Inside.{least_at}
 use Rattle.windows.proofs.least_high.Given as goal
 
-abbrev pub invariant-loop-rest : goal.invariant-loop-rest
-invariant-loop-rest l =
-    (l.rest < 2 ^ 32) × (l.least ≤ never) × (min l.least (least_at l.highs (members_of l.rest)) ≡ least_at l.highs (members_of l.set))
-
-abbrev pub decreases-loop-rest : goal.decreases-loop-rest
-decreases-loop-rest l = count_of l.rest
+abbrev pub invariant-loop-p : goal.invariant-loop-p
+invariant-loop-p l = (l.least ≤ never) × (min l.least (least_at l.highs l.p-iterator) ≡ least_at l.highs (members_of l.set))

@@ -1,13 +1,12 @@
 -- `worst::day_of` meets its contract. Assumes nothing.
 use Rattle.all_runs.proofs.Searching.{few_rows}
 use Rattle.worst.proofs.Answering.{day_refused_lem, day_past, few_records, all_ready, day_chooses, day_asks, day_found}
-use mathlib.Core.Path.{refl}
 use native.Mathlib.Omega.{arith}
 use Rattle.worst.proofs.day_of.Goals as goal
 
 pub returns-then-refused-ne-ACCEPTED : goal.returns-then-refused-ne-ACCEPTED
 returns-then-refused-ne-ACCEPTED c =
-    let all = day_refused_lem c.test-answer.ensures.answer c.refused_by-refused.ensures _ _ c.if-refused-ne-ACCEPTED.true refl in
+    let all = day_refused_lem c.test-answer.ensures.answer c.refused_by-refused.ensures _ _ c.if-refused-ne-ACCEPTED.true in
     record {
       reply = all.0;
       out = all.1;
@@ -15,7 +14,7 @@ returns-then-refused-ne-ACCEPTED c =
 
 pub returns-then-many-projection : goal.returns-then-many-projection
 returns-then-many-projection c =
-    let all = day_past c.test-answer.ensures.answer c.refused_by-refused.ensures _ _ c.if-refused-ne-ACCEPTED.false c.many_by-many.ensures (omega (arith, c.if-many-projection.true)) refl in
+    let all = day_past c.test-answer.ensures.answer c.refused_by-refused.ensures _ _ c.if-refused-ne-ACCEPTED.false c.many_by-many.ensures (omega (arith, c.if-many-projection.true)) in
     record {
       reply = all.0;
       out = all.1;
@@ -52,8 +51,8 @@ chosen-w-requires c =
     c.many_by-many.ensures
     (omega (arith, c.if-many-projection.false))
 
-pub write_day-put-requires : goal.write_day-put-requires
-write_day-put-requires c =
+pub write_day-requires : goal.write_day-requires
+write_day-requires c =
     day_asks
     c.test-answer.ensures.answer
     c.refused_by-refused.ensures
@@ -79,8 +78,7 @@ returns c =
     c.many_by-many.ensures
     (omega (arith, c.if-many-projection.false))
     c.chosen-w.ensures
-    c.write_day-put.ensures
-    refl in
+    c.write_day.ensures in
     record {
       reply = all.0;
       out = all.1;

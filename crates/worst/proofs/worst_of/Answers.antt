@@ -8,8 +8,8 @@ returns-then-refused-ne-ACCEPTED c = worst_refused c.test-answer.ensures.answer 
 pub lay_out-requires : goal.lay_out-requires
 lay_out-requires c = few_records c.test-answer.ensures.answer c.refused_by-refused.ensures c.if-refused-ne-ACCEPTED.false
 
-pub worst_run-found-requires : goal.worst_run-found-requires
-worst_run-found-requires c =
+pub worst_run-requires : goal.worst_run-requires
+worst_run-requires c =
     record {
       plan = _;
       ready =
@@ -35,4 +35,4 @@ returns c =
     c.points_of-n.ensures
     c.links_of-links.ensures
     c.many_by.ensures
-    c.worst_run-found.ensures
+    c.worst_run.ensures

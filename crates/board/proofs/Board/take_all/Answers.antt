@@ -29,7 +29,7 @@ returns-then-not-is_sound_by c =
 
 pub take_each-requires : goal.take_each-requires
 take_each-requires c =
-    let n = c.fewer-n.ensures in
+    let n = c.min-n.ensures in
     (record { accepted = rw c.check-found.ensures at c.if-found-ne-ACCEPTED.false; sound = sound_known c.args.plan (rw c.check-found.ensures at c.if-found-ne-ACCEPTED.false) _ c.links_by-links.ensures c.args.self _ _ c.is_sound_by.ensures (c.if-not-is_sound_by.false); links = c.links_by-links.ensures }, omega arith, omega arith)
 
 pub returns : goal.returns
@@ -37,7 +37,7 @@ returns c =
     let s = c.args in
     let w = all_taken s.plan s.self s.events.now s.room.now (rw c.check-found.ensures at c.if-found-ne-ACCEPTED.false) (sound_known c.args.plan (rw c.check-found.ensures at c.if-found-ne-ACCEPTED.false) _ c.links_by-links.ensures c.args.self _ _ c.is_sound_by.ensures (c.if-not-is_sound_by.false)) in
     let t = c.take_each.ensures in
-    let n = c.fewer-n.ensures in
+    let n = c.min-n.ensures in
     record {
       reply = rw (t.board, n) at c.answer-2.ensures ∙ w.0;
       room = rw n at t.room ∙ w.1;

@@ -1,16 +1,17 @@
 -- `closure::far::some_far` meets its contract. Assumes nothing.
-use mathlib.Core.Path.{sym, ◌∙◌}
-use Rattle.closure.proofs.Coding.{none_yet, none_more, none_at_all, one_among}
+use mathlib.Core.Bool.{true, false}
+use mathlib.Core.Path.{◌≡◌, refl}
+use native.Mathlib.Omega.{arith}
+use Rattle.std.proofs.Common.{rules, tests}
+use Rattle.std.proofs.lemmas.Iterator.{cases_from_any, YieldsList-from_range}
+use Rattle.tables.specs.Entries.{at}
+use Rattle.tables.proofs.Chains.{any_below}
+use Rattle.vee.specs.TestOf.{among}
+use Rattle.closure.specs.Closing.{too_far}
+use Rattle.closure.proofs.Coding.{among_by}
 use Rattle.closure.proofs.far.some_far.Goals as goal
 
-pub loop-x-init : goal.loop-x-init
-loop-x-init c = none_yet _ _
-
-pub returns-then-far_from : goal.returns-then-far_from
-returns-then-far_from c = one_among _ _ c.loop-x.x c.loop-x-test.true (sym c.far_from.ensures ∙ c.if-far_from.true)
-
-pub loop-x-preserved : goal.loop-x-preserved
-loop-x-preserved c = none_more _ _ c.loop-x.invariant c.loop-x-test.true (sym c.far_from.ensures ∙ c.if-far_from.false)
-
 pub returns : goal.returns
-returns c = none_at_all _ _ c.loop-x.invariant c.loop-x-test.false
+returns c =
+    let t = c.args.t.now in
+    among_by _ _ _ (any_below _ _ _ _ (cases_from_any _ _ _ (λ i. among c.args.n (λ Y. too_far (at t i Y)) ≡ true) (λ i. among c.args.n (λ Y. too_far (at t i Y)) ≡ false) c.any.ensures.ran (YieldsList-from_range 0 c.args.n c.args.n refl (omega arith)) (λ i r k. search (rules, tests)) (λ i r k. search (rules, tests))))

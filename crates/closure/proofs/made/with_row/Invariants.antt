@@ -1,6 +1,6 @@
 -- `closure::made::with_row` meets its contract. Assumes nothing.
 use mathlib.Core.Path.{◌≡◌}
-use Prim.Native.Nat.{◌+◌, ◌-◌, ◌≤◌, ◌<◌}
+use Prim.Native.Nat.{◌+◌, ◌≤◌, ◌<◌}
 use lib.ListN.{length, take}
 use Rattle.plan.specs.Limits.{most_records}
 use Rattle.tables.specs.Tables.{side}
@@ -11,6 +11,3 @@ use Rattle.closure.proofs.made.with_row.Given as goal
 abbrev pub invariant-loop-y : goal.invariant-loop-y
 invariant-loop-y l =
     (l.n ≤ side) × (l.x < l.n) × (length (take l.initial.count l.initial.records) + l.n ≤ most_records) × (length l.records ≡ most_records) × (l.count ≤ length (take l.initial.count l.initial.records) + l.y) × RowSofar (take l.initial.count l.initial.records) l.n (at l.t) l.x l.y l.records l.count
-
-abbrev pub decreases-loop-y : goal.decreases-loop-y
-decreases-loop-y l = l.n - l.y

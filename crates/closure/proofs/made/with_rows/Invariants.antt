@@ -1,5 +1,4 @@
 -- `closure::made::with_rows` meets its contract. Assumes nothing.
-use Prim.Native.Nat.{◌-◌}
 use Rattle.plan.specs.APlan.{records_of}
 use Rattle.tables.specs.Entries.{at}
 use Rattle.closure.proofs.Coding.{RowsSofar}
@@ -7,6 +6,3 @@ use Rattle.closure.proofs.made.with_rows.Given as goal
 
 abbrev pub invariant-loop-x : goal.invariant-loop-x
 invariant-loop-x l = RowsSofar (records_of l.initial.made) l.n (at l.t) l.x l.made
-
-abbrev pub decreases-loop-x : goal.decreases-loop-x
-decreases-loop-x l = l.n - l.x

@@ -11,17 +11,17 @@ loop-q-init c = driving_none c.requires c.no_drives-drives.ensures
 pub row_at-row-requires : goal.row_at-row-requires
 row_at-row-requires c = omega (arith, c.loop-q.invariant.asks.rows, c.loop-q-test.true)
 
-pub offset_bounds-durations-index : goal.offset_bounds-durations-index
-offset_bounds-durations-index c = omega (arith, c.index.ensures, ap (λ (r : Row). r.over) c.row_at-row.ensures, c.loop-q.invariant.asks.over c.loop-q.q (omega (arith, c.loop-q-test.true)))
+pub offset_bounds-durations-row : goal.offset_bounds-durations-row
+offset_bounds-durations-row c = omega (arith, ap (λ (r : Row). r.over) c.row_at-row.ensures, c.loop-q.invariant.asks.over c.loop-q.q (omega (arith, c.loop-q-test.true)))
 
-pub bounds-durations-index : goal.bounds-durations-index
-bounds-durations-index c = omega (arith, c.index.ensures, ap (λ (r : Row). r.over) c.row_at-row.ensures, c.loop-q.invariant.asks.over c.loop-q.q (omega (arith, c.loop-q-test.true)))
+pub bounds-durations-row : goal.bounds-durations-row
+bounds-durations-row c = omega (arith, ap (λ (r : Row). r.over) c.row_at-row.ensures, c.loop-q.invariant.asks.over c.loop-q.q (omega (arith, c.loop-q-test.true)))
 
 pub with_drive-drives-requires : goal.with_drive-drives-requires
 with_drive-drives-requires c = driving_room c.loop-q.invariant (omega (arith, c.loop-q-test.true)) c.row_at-row.ensures
 
 pub loop-q-preserved : goal.loop-q-preserved
-loop-q-preserved c = driving_more c.loop-q.invariant (omega (arith, c.loop-q-test.true)) c.row_at-row.ensures (rw c.index.ensures refl) c.with_drive-drives.ensures
+loop-q-preserved c = driving_more c.loop-q.invariant (omega (arith, c.loop-q-test.true)) c.row_at-row.ensures refl c.with_drive-drives.ensures
 
 pub returns : goal.returns
 returns c = driving_all c.loop-q.invariant (omega (arith, c.loop-q-test.false))

@@ -1,10 +1,6 @@
 -- `explained::drives::drives_of` meets its contract. Assumes nothing.
 use Rattle.explained.proofs.Driving.{Driving}
-use Prim.Native.Nat.{◌-◌}
 use Rattle.explained.proofs.drives.drives_of.Given as goal
 
 abbrev pub invariant-loop-q : goal.invariant-loop-q
 invariant-loop-q l = Driving l.sheet l.durations l.m l.drives l.q
-
-abbrev pub decreases-loop-q : goal.decreases-loop-q
-decreases-loop-q l = l.m - l.q

@@ -11,11 +11,11 @@ fill-requires c = c.requires.ready
 pub way-found-requires : goal.way-found-requires
 way-found-requires c = pair_way c.requires c.fill.ensures
 
-pub sum_of-length-requires : goal.sum_of-length-requires
-sum_of-length-requires c = pair_sums c.requires c.fill.ensures c.way-found.ensures
+pub sum_of-requires : goal.sum_of-requires
+sum_of-requires c = pair_sums c.requires c.fill.ensures c.way-found.ensures
 
 pub drives_of-drives-requires : goal.drives_of-drives-requires
 drives_of-drives-requires c = c.requires.drives
 
 pub returns : goal.returns
-returns c = pair_shown c.requires c.fill.ensures c.way-found.ensures c.sum_of-length.ensures c.allowed-best.ensures c.drives_of-drives.ensures
+returns c = pair_shown c.requires c.fill.ensures c.way-found.ensures c.sum_of.ensures c.allowed-best.ensures c.drives_of-drives.ensures

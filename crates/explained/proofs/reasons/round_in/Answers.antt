@@ -12,4 +12,4 @@ pub drives_of-drives-requires : goal.drives_of-drives-requires
 drives_of-drives-requires c = c.requires.drives
 
 pub returns : goal.returns
-returns c = round_shown c.requires c.round_of-found.ensures c.sum_of-length.ensures c.no_length-none.ensures c.drives_of-drives.ensures
+returns c = round_shown c.requires c.round_of-found.ensures c.sum_of-length.ensures c.drives_of-drives.ensures

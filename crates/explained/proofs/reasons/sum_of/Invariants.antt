@@ -1,10 +1,6 @@
 -- `explained::reasons::sum_of` meets its contract. Assumes nothing.
 use Rattle.explained.proofs.Driving.{Summing}
-use Prim.Native.Nat.{◌-◌}
 use Rattle.explained.proofs.reasons.sum_of.Given as goal
 
 abbrev pub invariant-loop-k : goal.invariant-loop-k
 invariant-loop-k l = Summing l.count l.steps l.k l.up l.down
-
-abbrev pub decreases-loop-k : goal.decreases-loop-k
-decreases-loop-k l = l.count - l.k

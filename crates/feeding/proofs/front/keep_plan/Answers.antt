@@ -1,5 +1,5 @@
 -- `feeding::keep_plan` meets its contract. Assumes nothing.
-use Rattle.std.proofs.Common.{◌-◌, refl, rules}
+use Rattle.std.proofs.Common.{◌-◌, refl, rules, arith}
 use Rattle.saying.proofs.Gone.{part_is}
 use Rattle.feeding.proofs.Fronting.{kept_none, kept_more, kept_mark, kept_all}
 use Rattle.feeding.proofs.front.keep_plan.Goals as goal
@@ -11,7 +11,7 @@ pub returns-then-is_mark : goal.returns-then-is_mark
 returns-then-is_mark c = kept_mark _ _ _ _ c.loop-i.invariant (search rules) (part_is c.loop-i.i c.args.input.now) c.is_mark.ensures c.if-is_mark.true refl
 
 pub loop-i-preserved : goal.loop-i-preserved
-loop-i-preserved c = kept_more _ _ _ _ c.loop-i.invariant (search rules) (part_is c.loop-i.i c.args.input.now) c.is_mark.ensures c.if-is_mark.false c.append.ensures.bytes c.wrapping_add_u64-now.ensures.value
+loop-i-preserved c = kept_more _ _ _ _ c.loop-i.invariant (search rules) (part_is c.loop-i.i c.args.input.now) c.is_mark.ensures c.if-is_mark.false c.append.ensures.bytes refl
 
 pub returns : goal.returns
-returns c = kept_all _ _ _ _ c.loop-i.invariant (search rules) refl
+returns c = let k = c.loop-i.invariant in kept_all _ _ _ _ k (search rules) (omega (arith, k.upto, c.loop-i-test.false))

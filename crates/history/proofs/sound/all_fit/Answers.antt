@@ -1,7 +1,6 @@
 -- `history::sound::all_fit` meets its contract. Assumes nothing.
 use native.Mathlib.Omega.{arith}
 use mathlib.Core.Path.{refl, sym, ◌∙◌}
-use Prim.Native.Nat.{◌-◌}
 use Rattle.plan.specs.Limits.{most_points}
 use Rattle.history.specs.History.{fits}
 use Rattle.history.proofs.Walks.{points_fails, points_turn, points_end}

@@ -9,6 +9,3 @@ use Rattle.history.proofs.sound.all_fit.Given as goal
 abbrev pub invariant-loop-p : goal.invariant-loop-p
 invariant-loop-p l =
     (l.p ≤ most_points) × (every (fits l.clock l.done l.minutes) (from l.p (most_points - l.p)) ≡ every (fits l.clock l.done l.minutes) (from 0 most_points))
-
-abbrev pub decreases-loop-p : goal.decreases-loop-p
-decreases-loop-p l = most_points - l.p

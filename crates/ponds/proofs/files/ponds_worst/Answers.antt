@@ -1,7 +1,9 @@
 -- `ponds::files::ponds_worst` meets its contract. Assumes nothing.
 use borrow.Author.Rules.{rules}
 use mathlib.Core.Path.{ap, ◌∙◌}
-use Rattle.worst.specs.declared.Worst.{Worst}
+use Rattle.std.specs.Prelude.{Result}
+use Rattle.plan.specs.declared.Refusal.{Refusal}
+use Rattle.worst.specs.WorstMinute.{Found}
 use Rattle.told.specs.Told.{worst_answer, worst_room}
 use Rattle.ponds.proofs.files.ponds_worst.Goals as goal
 
@@ -10,5 +12,5 @@ returns c =
     let e = c.worst_file-found.ensures in
     record {
       reply = c.tell_worst.ensures.reply ∙ ap worst_answer e;
-      room = c.tell_worst.ensures.room ∙ ap (λ (w : Worst). worst_room w c.args.room.now) e;
+      room = c.tell_worst.ensures.room ∙ ap (λ (w : Result Found Refusal). worst_room w c.args.room.now) e;
     }

@@ -1,7 +1,7 @@
 -- `ponds::made::ponds_import` meets its contract. Assumes nothing.
 use borrow.Author.Rules.{rules}
 use mathlib.Core.Path.{ap, ◌∙◌}
-use Rattle.plan.specs.declared.Reading.{Reading}
+use Rattle.plan.specs.ReplyNumbers.{Reading}
 use Rattle.made_files.specs.Made.{file_left, filed_answer}
 use Rattle.ponds.proofs.made.ponds_import.Goals as goal
 

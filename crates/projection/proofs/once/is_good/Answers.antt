@@ -1,7 +1,7 @@
 -- `projection::once::is_good` meets its contract. Assumes nothing.
 use mathlib.Core.Path.{sym}
 use mathlib.Core.Bool.{true≢false}
-use Rattle.projection.proofs.OneRound.{shown_good}
+use Rattle.projection.proofs.OneRound.{shown_by}
 use mathlib.Core.Path.{ap}
 use mathlib.Core.Bool.{not}
 use Rattle.projection.proofs.once.is_good.Goals as goal
@@ -20,10 +20,5 @@ once-requires c =
 pub first_pair-requires : goal.first_pair-requires
 first_pair-requires c = c.requires.ready.few
 
-pub returns-in-None : goal.returns-in-None
-returns-in-None c =
-    λ e.
-    shown_good _ _ _ _ _ _ _ c.requires c.fill.result (ap not c.if-not-fill.false) c.fill.ensures c.once.ensures (rw c.in-None.is at c.first_pair.ensures)
-
-pub returns-in-At : goal.returns-in-At
-returns-in-At c = λ e. absurd (true≢false (sym e))
+pub returns : goal.returns
+returns c = λ e. shown_by _ _ _ _ _ _ _ c.requires c.fill.result (ap not c.if-not-fill.false) c.fill.ensures c.once.ensures _ c.first_pair.ensures _ c.is_none.ensures e

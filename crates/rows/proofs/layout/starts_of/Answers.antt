@@ -1,31 +1,14 @@
 -- `rows::layout::starts_of` meets its contract. Assumes nothing.
-use Rattle.rows.proofs.Layouts.{starting_none, starting_more, starting_all}
 use native.Mathlib.Omega.{arith}
+use Rattle.std.proofs.Common.{rules}
+use Rattle.rows.proofs.Layouts.{starting_none, starting_link, starting_other}
 use Rattle.rows.proofs.layout.starts_of.Goals as goal
 
-pub loop-left-init : goal.loop-left-init
-loop-left-init c = starting_none (c.well_formed.0.1.1.1.0.1.0.1) c.requires
+pub loop-q-init : goal.loop-q-init
+loop-q-init c = starting_none (search rules) c.requires
 
-pub overflow_sub-left : goal.overflow_sub-left
-overflow_sub-left c = omega (arith, c.loop-left-test.true)
+pub loop-q-preserved-then-r-eq-LINK : goal.loop-q-preserved-then-r-eq-LINK
+loop-q-preserved-then-r-eq-LINK c = starting_link c.loop-q.invariant (omega arith) (search rules) c.if-r-eq-LINK.true
 
-pub offset_bounds-plan-left : goal.offset_bounds-plan-left
-offset_bounds-plan-left c = let v = c.loop-left.invariant in omega (arith, v.room, v.few, v.within, c.loop-left-test.true)
-
-pub bounds-plan-left : goal.bounds-plan-left
-bounds-plan-left c = let v = c.loop-left.invariant in omega (arith, v.room, v.few, v.within, c.loop-left-test.true)
-
-pub bounds-starts-c : goal.bounds-starts-c
-bounds-starts-c c = let v = c.loop-left.invariant in omega (arith, v.long, c.struct_known-1.given.1.1.0.fits)
-
-pub bounds-starts-c-in-loop-left : goal.bounds-starts-c-in-loop-left
-bounds-starts-c-in-loop-left c = let v = c.loop-left.invariant in omega (arith, v.long, c.struct_known-1.given.1.1.0.fits)
-
-pub loop-left-smaller : goal.loop-left-smaller
-loop-left-smaller c = omega (arith, c.loop-left-test.true)
-
-pub loop-left-preserved : goal.loop-left-preserved
-loop-left-preserved c = starting_more c.loop-left.invariant c.loop-left-test.true (omega (arith, c.struct_known-1.given.1.1.0.fits)) c.pick_byte.ensures
-
-pub returns : goal.returns
-returns c = starting_all c.loop-left.invariant (omega (arith, c.loop-left-test.false))
+pub loop-q-preserved : goal.loop-q-preserved
+loop-q-preserved c = starting_other c.loop-q.invariant (omega arith) c.if-r-eq-LINK.false

@@ -2,8 +2,5 @@
 use Rattle.rows.proofs.Layouts.{Starting}
 use Rattle.rows.proofs.layout.starts_of.Given as goal
 
-abbrev pub invariant-loop-left : goal.invariant-loop-left
-invariant-loop-left l = Starting l.plan l.starts l.left
-
-abbrev pub decreases-loop-left : goal.decreases-loop-left
-decreases-loop-left l = l.left
+abbrev pub invariant-loop-q : goal.invariant-loop-q
+invariant-loop-q l = Starting l.plan l.starts l.q

@@ -11,7 +11,7 @@ pub put_event-end-requires : goal.put_event-end-requires
 put_event-end-requires c = leb-true _ _ (sym c.fits.ensures ∙ c.if-not-fits.false)
 
 pub loop-i-preserved : goal.loop-i-preserved
-loop-i-preserved c = gone_more _ _ _ _ _ _ _ _ _ _ _ _ _ c.loop-i.invariant (search rules) (part_is c.loop-i.i c.args.bytes.now) c.put_event-end.ensures c.wrapping_add_u64-next.ensures.value
+loop-i-preserved c = gone_more _ _ _ _ _ _ _ _ _ _ _ _ _ c.loop-i.invariant (search rules) (part_is c.loop-i.i c.args.bytes.now) c.put_event-end.ensures refl
 
 pub returns : goal.returns
 returns c =

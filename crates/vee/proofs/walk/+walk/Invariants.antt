@@ -1,5 +1,4 @@
 -- `vee::walk::walk` ends: the links still ahead fall. Assumes nothing.
-use Prim.Native.Nat.{suc, ◌-◌}
 use Rattle.vee.proofs.Walks.{Turning}
 use Rattle.vee.proofs.walk.+walk.Given as goal
 
@@ -8,6 +7,3 @@ decreases-walk l = l.ahead
 
 abbrev pub invariant-loop-p : goal.invariant-loop-p
 invariant-loop-p l = Turning l.sheet l.durations l.m l.n l.past l.ahead l.number l.p l.next
-
-abbrev pub decreases-loop-p : goal.decreases-loop-p
-decreases-loop-p l = suc l.longest - l.p

@@ -1,10 +1,6 @@
 -- `vee::walk::projections` meets its contract. Assumes nothing.
 use Rattle.vee.proofs.Counts.{Counting}
-use Prim.Native.Nat.{◌-◌}
 use Rattle.vee.proofs.walk.projections.Given as goal
 
 abbrev pub invariant-loop-k : goal.invariant-loop-k
 invariant-loop-k l = Counting l.sheet l.past l.links l.k l.total
-
-abbrev pub decreases-loop-k : goal.decreases-loop-k
-decreases-loop-k l = l.links - l.k

@@ -3,4 +3,4 @@ use mathlib.Core.Path.{refl}
 use Rattle.ways.proofs.round.closes.Goals as goal
 
 pub returns : goal.returns
-returns c = rw c.wide-back.ensures.0 refl
+returns c = rw c.from-back.ensures refl

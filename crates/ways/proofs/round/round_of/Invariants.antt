@@ -1,10 +1,6 @@
 -- `ways::round::round_of` meets its contract. Assumes nothing.
 use Rattle.ways.proofs.Rounding.{Rounding}
-use Prim.Native.Nat.{◌-◌}
 use Rattle.ways.proofs.round.round_of.Given as goal
 
 abbrev pub invariant-loop-k : goal.invariant-loop-k
 invariant-loop-k l = Rounding l.sheet l.durations l.m l.n l.end l.k
-
-abbrev pub decreases-loop-k : goal.decreases-loop-k
-decreases-loop-k l = l.end - l.k

@@ -1,16 +1,11 @@
--- `windows::asks::all_above` meets its contract. Assumes nothing.
-use mathlib.Core.Path.{◌≡◌}
-use Prim.Native.Nat.{ℕ, ◌+◌, ◌<◌, ◌^◌}
-use lib.Dec.{ltb}
-use lib.ListN.{get_or}
-use Rattle.points.specs.Sets.{count_of, members_of, every}
+-- `windows::asks::all_above` meets its contract: what is left is so where all are. Assumes nothing.
+use Rattle.std.proofs.Common.{◌≡◌, ℕ, ◌+◌, ltb, get_or, List, Bool}
+use Rattle.points.specs.Sets.{members_of, every}
 use Rattle.plan.specs.Limits.{farthest}
 use Rattle.windows.proofs.asks.all_above.Given as goal
 
-abbrev pub invariant-loop-rest : goal.invariant-loop-rest
-invariant-loop-rest l =
-    (l.rest < 2 ^ 32)
-    × (every (λ (q : ℕ). ltb l.high (get_or l.lows q 0 + farthest)) (members_of l.rest) ≡ every (λ (q : ℕ). ltb l.high (get_or l.lows q 0 + farthest)) (members_of l.initial.rest))
+abbrev pub above : ℕ → List ℕ → ℕ → Bool
+above high lows q = ltb high (get_or lows q 0 + farthest)
 
-abbrev pub decreases-loop-rest : goal.decreases-loop-rest
-decreases-loop-rest l = count_of l.rest
+abbrev pub invariant-loop-p : goal.invariant-loop-p
+invariant-loop-p l = every (above l.high l.lows) l.p-iterator ≡ every (above l.high l.lows) (members_of l.fn.w.opens)

@@ -1,19 +1,16 @@
 -- `stream::sheet::Sheet::ended` meets its contract. Assumes nothing.
-use Rattle.std.proofs.Common.{eq-eqb}
-use Rattle.stream.specs.Sheets.{ended_of}
-use Rattle.stream.proofs.Stages.{ended_tail, ended_quiet}
+use Rattle.std.proofs.Common.{◌∙◌, eq-eqb, ne_eqb}
+use Rattle.stream.proofs.Stages.{ended_here}
 use Rattle.stream.proofs.sheet.Sheet.ended.Goals as goal
 
-pub returns-then-self-eq-PLANNING : goal.returns-then-self-eq-PLANNING
-unfolding ended_of
-returns-then-self-eq-PLANNING c = rw (eq-eqb _ _ c.if-self-eq-PLANNING.true) (rw c.longer-whole.ensures at c.begun.ensures)
+pub returns-in-Planning : goal.returns-in-Planning
+returns-in-Planning c = let a = c.args in rw c.longer.ensures at c.begun.ensures ∙ ended_here a.self a.left a.front.now c.in-Planning.is
 
-pub returns-then-left-self : goal.returns-then-left-self
-returns-then-left-self c =
-    let s = c.args in
-    rw c.turned.ensures (ended_tail s.self s.left s.front.now c.if-self-eq-PLANNING.false c.if-left-self.true)
+pub returns-in-Playing : goal.returns-in-Playing
+returns-in-Playing c = let a = c.args in let h = ended_here a.self a.left a.front.now c.in-Playing.is in c.tailed.ensures ∙ rw (ne_eqb a.left 0 c.if-left-ne0.true) at h
 
-pub returns : goal.returns
-returns c =
-    let s = c.args in
-    rw c.quiet.ensures (ended_quiet s.self s.left s.front.now c.if-self-eq-PLANNING.false c.if-left-self.false)
+pub returns-in-Playing-2 : goal.returns-in-Playing-2
+returns-in-Playing-2 c = let a = c.args in let h = ended_here a.self a.left a.front.now c.in-Playing-2.is in c.quiet.ensures ∙ rw (eq-eqb a.left 0 c.if-left-ne0.false) at h
+
+pub returns-in-Over : goal.returns-in-Over
+returns-in-Over c = let a = c.args in c.quiet-in-Over.ensures ∙ ended_here a.self a.left a.front.now c.in-Over.is

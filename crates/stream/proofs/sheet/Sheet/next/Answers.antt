@@ -1,20 +1,16 @@
 -- `stream::sheet::Sheet::next` meets its contract. Assumes nothing.
-use Rattle.std.proofs.Common.{sym, ◌∙◌, eq-eqb, ne_eqb}
-use Rattle.stream.specs.Sheets.{next_of}
+use Rattle.std.proofs.Common.{sym, ◌∙◌}
+use Rattle.stream.proofs.Stages.{next_here, next_planning}
 use Rattle.stream.proofs.sheet.Sheet.next.Goals as goal
 
-pub returns-then-is_mark : goal.returns-then-is_mark
-unfolding next_of
-returns-then-is_mark c = rw (eq-eqb _ _ c.if-self-eq-PLANNING.true, sym c.is_mark.ensures ∙ c.if-is_mark.true) c.begun.ensures
+pub returns-in-Planning : goal.returns-in-Planning
+returns-in-Planning c = let a = c.args in c.begun.ensures ∙ next_planning a.self a.bytes.now a.front.now c.in-Planning.is (sym c.if-is_mark.true ∙ c.is_mark.ensures)
 
-pub returns-then-self-eq-PLANNING : goal.returns-then-self-eq-PLANNING
-unfolding next_of
-returns-then-self-eq-PLANNING c = rw (eq-eqb _ _ c.if-self-eq-PLANNING.true, sym c.is_mark.ensures ∙ c.if-is_mark.false) c.longer.ensures
+pub returns-in-Planning-2 : goal.returns-in-Planning-2
+returns-in-Planning-2 c = let a = c.args in c.longer.ensures ∙ next_planning a.self a.bytes.now a.front.now c.in-Planning-2.is (sym c.if-is_mark.false ∙ c.is_mark.ensures)
 
-pub returns-then-self-eq-PLAYING : goal.returns-then-self-eq-PLAYING
-unfolding next_of
-returns-then-self-eq-PLAYING c = rw (ne_eqb _ _ c.if-self-eq-PLANNING.false, eq-eqb _ _ c.if-self-eq-PLAYING.true) c.played.ensures
+pub returns-in-Playing : goal.returns-in-Playing
+returns-in-Playing c = let a = c.args in c.played.ensures ∙ next_here a.self a.bytes.now a.front.now c.in-Playing.is
 
-pub returns : goal.returns
-unfolding next_of
-returns c = rw (ne_eqb _ _ c.if-self-eq-PLANNING.false, ne_eqb _ _ c.if-self-eq-PLAYING.false) c.quiet.ensures
+pub returns-in-Over : goal.returns-in-Over
+returns-in-Over c = let a = c.args in c.quiet.ensures ∙ next_here a.self a.bytes.now a.front.now c.in-Over.is

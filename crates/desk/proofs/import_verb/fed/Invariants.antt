@@ -1,9 +1,0 @@
--- `desk::import_verb::fed` meets its contract. Assumes nothing.
-use Rattle.std.proofs.Common.{◌≡◌, length}
-use Rattle.desk.proofs.import_verb.fed.Given as goal
-
-abbrev pub invariant-loop-turns : goal.invariant-loop-turns
-invariant-loop-turns l = length l.room ≡ length l.initial.room
-
-abbrev pub decreases-loop-turns : goal.decreases-loop-turns
-decreases-loop-turns l = l.turns

@@ -1,2 +1,0 @@
--- The proofs of what one row changes that belong to no one function.
-mod Steps

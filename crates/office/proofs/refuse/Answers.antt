@@ -1,5 +1,0 @@
--- `office::refuse` meets its contract. Assumes nothing.
-use Rattle.office.proofs.refuse.Goals as goal
-
-pub returns : goal.returns
-returns c = rw c.no_records-records.ensures

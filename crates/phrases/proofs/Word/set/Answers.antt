@@ -1,8 +1,0 @@
--- `phrases::Word::set` meets its contract. Assumes nothing.
-use Rattle.phrases.proofs.Word.set.Goals as goal
-
-pub returns-then-is_none : goal.returns-then-is_none
-returns-then-is_none c = rw (← c.is_none.ensures, c.if-is_none.true)
-
-pub returns : goal.returns
-returns c = rw (← c.is_none.ensures, c.if-is_none.false, c.ended-e.ensures)

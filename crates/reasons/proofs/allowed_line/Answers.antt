@@ -1,6 +1,0 @@
--- `reasons::allowed_line` meets its contract. Assumes nothing.
-use mathlib.Core.Path.{refl, ◌∙◌}
-use Rattle.reasons.proofs.allowed_line.Goals as goal
-
-pub returns : goal.returns
-returns c = c.line_of.ensures ∙ rw c.piece_of-piece.ensures refl

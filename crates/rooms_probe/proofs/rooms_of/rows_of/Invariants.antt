@@ -1,9 +1,0 @@
--- `rooms_probe::rooms_of::rows_of` is safe and ends. Assumes nothing.
-use Prim.Native.Nat.{◌≤◌, ◌-◌}
-use Rattle.rooms_probe.proofs.rooms_of.rows_of.Given as goal
-
-abbrev pub invariant-loop-k : goal.invariant-loop-k
-invariant-loop-k l = l.k ≤ 6768
-
-abbrev pub decreases-loop-k : goal.decreases-loop-k
-decreases-loop-k l = 6768 - l.k

@@ -1,8 +1,0 @@
--- `sayings::wrong` meets its contract. Assumes nothing.
-use Rattle.sayings.proofs.wrong.Goals as goal
-
-pub returns-then-holds : goal.returns-then-holds
-returns-then-holds c = rw (← c.holds.ensures, c.if-holds.true)
-
-pub returns-else-holds : goal.returns-else-holds
-returns-else-holds c = rw (← c.holds.ensures, c.if-holds.false)

@@ -8,6 +8,7 @@ use Rattle.points.proofs.without.Reads as without_code
 use Rattle.points.proofs.count.Reads as count_code
 use Rattle.points.proofs.first.Reads as first_code
 use Rattle.points.proofs.below.Reads as Below-code
+use Rattle.points.proofs.members.Reads as members_code
 use Rattle.points.proofs.subset.Reads as subset_code
 use Rattle.plan_file.proofs.read.Reads as read_code
 use Rattle.plan.proofs.check.Reads as check_code
@@ -17,6 +18,8 @@ use Rattle.plan.proofs.points_of.Reads as points_of_code
 use Rattle.plan.proofs.links_of.Reads as links_of_code
 use Rattle.plan.proofs.link_to.Reads as link_to_code
 use Rattle.plan.proofs.is_watched.Reads as is_watched_code
+use Rattle.plan.proofs.used.Reads as used_code
+use Rattle.plan.proofs.Refusal.new.Reads as new_code
 use Rattle.office.proofs.import.Reads as import_code
 use Rattle.office_text.proofs.begin.Reads as begin_text_code
 use Rattle.office_text.proofs.feed.Reads as feed_code
@@ -102,6 +105,7 @@ pub record SingleReplies : Type 0 where
   pub count : Single count_code.Pre count_code.Post
   pub first : Single first_code.Pre first_code.Post
   pub below : Single Below-code.Pre Below-code.Post
+  pub members : Single members_code.Pre members_code.Post
   pub subset : Single subset_code.Pre subset_code.Post
   -- plan
   pub read : Single read_code.Pre read_code.Post
@@ -113,6 +117,8 @@ pub record SingleReplies : Type 0 where
   pub links_of : Single links_of_code.Pre links_of_code.Post
   pub link_to_lem : Single link_to_code.Pre link_to_code.Post
   pub is_watched : Single is_watched_code.Pre is_watched_code.Post
+  pub used : Single used_code.Pre used_code.Post
+  pub new : Single new_code.Pre new_code.Post
   -- office
   pub import : Single import_code.Pre import_code.Post
   pub begin_text : Single begin_text_code.Pre begin_text_code.Post

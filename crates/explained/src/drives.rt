@@ -1,5 +1,6 @@
 // The durations of a projection by its number, and the drives that they are: one for each link, in file order.
 ghost use Rattle.std.specs.Prelude.{◌≡◌, [], ◌<◌, ◌≤◌};
+ghost use Rattle.vee.specs.Walked.{RowsReady, CountedAs};
 ghost use Rattle.choices.specs.Choices.{ChosenAs};
 ghost use Rattle.explained.specs.Drives.{DurationAsks, with_drive, DriveAsks, drives_as, drives_from, most_links};
 
@@ -7,7 +8,6 @@ use choices::chosen;
 use plan::MOST_LINKS;
 use rows::{LINK_ROW, Row, SHEET, row_at};
 use tables::SIDE;
-use vee::projections;
 
 // The A and the C of a link, and how long it lasts.
 #[derive(Clone, Copy)]
@@ -26,12 +26,32 @@ const NO_DRIVE: Drive = Drive {
     minutes: 0,
 };
 
+// The most projections that are tested.
+const MOST_PROJECTIONS: u64 = 4096;
+
 // So many drives; the room after them is zero.
 // A room with its length beside it: the project has no heap.
 #[derive(Clone, Copy)]
 pub struct Drives {
     pub count: usize,
     pub list: [Drive; LINKS],
+}
+
+// How many projections the links of the `links` rows before row `past` have; once there are too many, some number that is too many. The
+// plan test has the same for itself: it asks something of its caller, so it is not open, and `vee` has open functions alone.
+fn projections(sheet: &[u32; SHEET], past: usize, links: usize) -> u64
+    requires { RowsReady sheet.now past links }
+    ensures { CountedAs sheet.now past links result }
+{
+    let mut total: u64 = 1;
+    for k in 0..links {
+        let row = row_at(sheet, past - (k + 1));
+        total = (row.second + 1 - row.first) * total;
+        if MOST_PROJECTIONS < total {
+            return total;
+        }
+    }
+    total
 }
 
 // The durations of projection `number`.

@@ -8,11 +8,9 @@ ghost use Rattle.std.specs.Prelude.{◌≡◌};
 
 use plan::{ACCEPTED, Plan, check, links_of, points_of};
 use rows::{SHEET, lay_out};
-use walk::{MOST_PROJECTIONS, walk_all};
+use walk::{MOST_PROJECTIONS, projections, walk_all};
 
 mod walk;
-
-pub use walk::projections;
 
 // What the test answers: the plan is refused, by number and place; it passes, with the number of projections tried; or
 // the number of the first projection that fails, with a cycle or its first bad pair.

@@ -97,7 +97,7 @@ pub(crate) fn walk_all(
 
 // How many projections the links of the `links` rows before row `past` have; once there are too many, some number that is
 // too many.
-pub fn projections(sheet: &[u32; SHEET], past: usize, links: usize) -> u64
+pub(crate) fn projections(sheet: &[u32; SHEET], past: usize, links: usize) -> u64
     requires { RowsReady sheet.now past links }
     ensures { CountedAs sheet.now past links result }
 {

@@ -30,6 +30,8 @@ use Rattle.projection_runs.proofs.Going.{few_of_run, rooms_ready}
 use Rattle.all_runs.specs.WorstRun.{projections_of, projection_at, Finish, worse, worst_from, worst_of_all}
 use Rattle.all_runs.specs.Coded.{AllReady, WorstAsks, worse_found, FoundOf}
 use Rattle.all_runs.specs.declared.Found.{Found}
+-- the case first: a wrong rule is then an error about it
+use Rattle.all_runs.proofs.AWorse.{first_of_equal}
 use Rattle.steps.specs.Found.{RoomsOf}
 use Rattle.choices.proofs.Decoding.{projection_chosen}
 

@@ -16,6 +16,7 @@ use Rattle.history.specs.History.{minute_in}
 use Rattle.history.proofs.Tests.{clash, both, and_both, either, unless, as_unless}
 use Rattle.history.proofs.Lists.{has, every_has, every_point, point_every, has_members, members_has, every_member, member_every, largest_le, largest_ge, largest_at}
 -- the cases first: a wrong rule is then an error about them
+use Rattle.calls.proofs.ACase.{cases}
 use Rattle.calls.specs.Calls.{call_in, unnumbered, no_gap, never_fall, same_minute, one_foreman, any_two, numbered, last_call}
 
 -- ---- tests of some points

@@ -7,6 +7,8 @@ use native.Mathlib.Omega.{arith}
 use lib.Dec.{ltb}
 use borrow.Author.Tests.{ltb-true, ltb-false}
 use Rattle.dates.specs.Counting.{before, Falls}
+-- the known dates first: a wrong calendar is then an error about them
+use Rattle.dates.proofs.ACase.{as_known}
 
 -- A part begins where the one before it ends.
 pub next_part : (f : ℕ → ℕ) (n : ℕ) → before f (n + 1) ≡ before f n + f n

@@ -21,6 +21,8 @@ use Rattle.sayings.specs.declared.Expected.{Expected}
 use Rattle.sayings.specs.declared.Expected.TheVariants as expects
 use Rattle.sayings.specs.declared.Said.{Said}
 use Rattle.sayings.proofs.Telling.{few}
+-- the row first: a wrong rule is then an error about it
+use Rattle.sayings.proofs.ARow.{octal}
 
 -- ---- words one by one
 

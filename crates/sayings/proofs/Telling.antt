@@ -23,6 +23,8 @@ use Rattle.sayings.specs.Inside.{cell, holds_in, wrong_in, point_in, count_in, s
 use Rattle.sayings.specs.Inside as inside
 use Rattle.sayings.specs.declared.Said.{Said}
 use Rattle.sayings.specs.declared.Said.TheVariants.{Plan, Mark, Event}
+-- the row first: a wrong rule is then an error about it
+use Rattle.sayings.proofs.ARow.{octal}
 
 -- what is kept of a word
 abbrev pub word_of : List ℕ → Word

@@ -11,6 +11,9 @@ mod ending;
 
 pub use ending::{append, behind, fits, within};
 
+// The code of the digit 0.
+pub const NOUGHT: u8 = b'0';
+
 // A text as it is.
 pub fn put(out: &mut [u8], at: usize, text: &[u8]) -> usize
     requires { Room out.old at text.now }

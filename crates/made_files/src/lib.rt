@@ -35,7 +35,7 @@ fn count_in(made: Result<Plan, Refusal>) -> u32
     }
 }
 
-// The same, and 0 with how many records there are, or the refusal.
+// A plan that was made, written as `file_plan` does; answers 0 with how many records there are, or the refusal.
 pub fn put_plan(made: Result<Plan, Refusal>, out: &mut [u8]) -> u64
     ensures reply { result ≡ filed_answer made out.old }
     ensures bytes { out.new ≡ file_left made out.old }

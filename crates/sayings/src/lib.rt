@@ -16,10 +16,20 @@ use records::Record;
 // Room for what is kept of a line's words: the longest kind has five, its own among them, and any more share the last cell.
 pub const CELLS: usize = 6;
 
-// What was expected, by number: one of the kind words; as many words as the kind has. The others are those of `Expected`.
+// What was expected, by number: one of the kind words; as many words as the kind has; and at a word what `Expected` says.
 pub const A_KIND: u32 = 1;
 
 pub const SO_MANY_WORDS: u32 = 2;
+
+pub const A_POINT: u32 = 3;
+
+pub const A_NUMBER: u32 = 4;
+
+pub const A_COUNT: u32 = 5;
+
+pub const A_POINT_OR_NONE: u32 = 6;
+
+pub const A_SET: u32 = 7;
 
 // The kinds of a plan's records, as a record has them.
 const POINT: u8 = 1;
@@ -56,11 +66,11 @@ impl Expected {
         ensures { result ≡ number_of self }
     {
         match self {
-            Expected::Point => 3,
-            Expected::Number => 4,
-            Expected::Count => 5,
-            Expected::PointOrNone => 6,
-            Expected::Set => 7,
+            Expected::Point => A_POINT,
+            Expected::Number => A_NUMBER,
+            Expected::Count => A_COUNT,
+            Expected::PointOrNone => A_POINT_OR_NONE,
+            Expected::Set => A_SET,
         }
     }
 

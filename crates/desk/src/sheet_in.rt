@@ -6,7 +6,7 @@ ghost use Rattle.plan.specs.Limits.{record_bytes};
 use board::SAID;
 use handles::read_full;
 use std::io::Stdin;
-use stream::{Sheet, Stage};
+use stream::{Sheet, Stage, is_mark};
 
 const RECORD: usize = plan::RECORD_BYTES;
 
@@ -21,25 +21,40 @@ struct Passed {
     past: usize,
 }
 
-// The first records of n, as far as they are no events.
+// The place of the first mark among n records, or n.
+fn first_mark(chunk: &[u8], n: usize) -> usize
+    requires { record_bytes * n ≤ length chunk.now }
+    ensures { result ≤ n }
+{
+    for i in 0..n {
+        let at = RECORD * i;
+        if is_mark(&chunk[at..at + RECORD]) {
+            return i;
+        }
+    }
+    n
+}
+
+// The first records of n, as far as they are no events: those before the mark at once, since a sheet by value is copied, and the mark.
 fn planned(sheet: Sheet, chunk: &[u8], n: usize) -> Passed
     requires { record_bytes * n ≤ length chunk.now }
     ensures { result.past ≤ n }
 {
-    let mut now = sheet;
-    // how many are passed is answered too, so the count goes on behind the loop, which may stop early
-    let mut i: usize = 0;
-    while i < n {
-        if now.stage == Stage::Playing {
-            break;
-        }
-        let at = RECORD * i;
-        now = now.next(&chunk[at..at + RECORD], chunk);
-        i += 1;
+    if sheet.stage != Stage::Planning {
+        return Passed { sheet, past: 0 };
     }
+    let many = first_mark(chunk, n);
+    let front = sheet.longer((RECORD * many) as u64);
+    if many == n {
+        return Passed {
+            sheet: front,
+            past: n,
+        };
+    }
+    let at = RECORD * many;
     Passed {
-        sheet: now,
-        past: i,
+        sheet: front.next(&chunk[at..at + RECORD], chunk),
+        past: many + 1,
     }
 }
 

@@ -105,7 +105,7 @@ impl Sheet {
     }
 
     // So many bytes more of the plan part.
-    fn longer(self, n: u64) -> Sheet
+    pub fn longer(self, n: u64) -> Sheet
         ensures { result ≡ longer self n }
     {
         let mut sheet = self;

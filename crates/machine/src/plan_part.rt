@@ -13,6 +13,7 @@ use rows::SHEET;
 use stream::read_front;
 
 // A piece of the plan part, or the rest of it with the mark, or, where the input is over, the last bytes of it.
+#[inline(never)]
 pub fn plan_turn(
     full: bool,
     over: bool,

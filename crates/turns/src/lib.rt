@@ -7,6 +7,9 @@
 ghost use Rattle.std.specs.Prelude.{◌≡◌, true, ◌+◌, ◌*◌, ◌≤◌, ◌<◌, length};
 ghost use Rattle.plan.specs.Limits.{most_points, record_bytes};
 ghost use Rattle.lines.specs.Text.{room};
+ghost use Rattle.plan.specs.ReplyNumbers.{plan_in};
+ghost use Rattle.stream.specs.Sheets.{read_front};
+ghost use Rattle.feeding.specs.Ending.{OverPut};
 ghost use Rattle.machine.specs.Feeds.{Turned};
 
 use engine::{KEPT, LIST};
@@ -16,6 +19,23 @@ use plan::{ACCEPTED, plan_in};
 use rows::SHEET;
 use saying::put_events;
 use stream::read_front;
+
+// How the sheet ends: its plan is read again where it stands. It is no part of `turn`, which would clear the room for a plan at each turn.
+#[inline(never)]
+fn put_over(
+    over: bool,
+    stage: Stage,
+    front: &[u8],
+    kept: &[u32; KEPT],
+    left: usize,
+    lines: &mut [u8],
+) -> usize
+    requires { room * 2 ≤ length lines.old }
+    ensures { OverPut over stage.number (plan_in (read_front stage.part front.now)) kept.now left lines.old 0 lines.new result }
+{
+    let again = read_front(stage.part, front);
+    put_last(over, stage.number, plan_in(again), kept, left, lines, 0)
+}
 
 // What of the piece is used and what is made of it, as the stage says: the plan part, events, or nothing where the plan is refused. Where the
 // input is over the piece is what is left of it, less than a record, and what is made is the end.
@@ -45,9 +65,7 @@ pub fn turn(
         return stands(stage, stage.events, piece.len(), 0);
     }
     if over {
-        let again = read_front(stage.part, &*front);
-        let plan = plan_in(again);
-        let end = put_last(over, stage.number, plan, &*kept, piece.len(), lines, 0);
+        let end = put_over(over, stage, &*front, &*kept, piece.len(), lines);
         return stands(stage, stage.events, piece.len(), end);
     }
     let links = stage.links;

@@ -1,4 +1,5 @@
 -- `turns::turn` meets its contract. Assumes nothing.
+use mathlib.Core.Path.{refl}
 use native.Mathlib.Omega.{arith}
 use borrow.Author.Tests.{not-true, not-false}
 use Rattle.machine.proofs.Stages.{turned_refused, turned_over, turned_events}
@@ -15,7 +16,7 @@ pub returns-then-stage-ne-ACCEPTED : goal.returns-then-stage-ne-ACCEPTED
 returns-then-stage-ne-ACCEPTED c = turned_refused _ _ _ _ _ _ _ _ _ _ _ (not-false _ c.if-not-stage.false) c.if-stage-ne-ACCEPTED.true _ c.stands.ensures
 
 pub returns-then-over : goal.returns-then-over
-returns-then-over c = turned_over _ c.args.over _ _ _ _ _ _ _ _ _ (not-false _ c.if-not-stage.false) c.if-over.true c.if-stage-ne-ACCEPTED.false _ c.read_front-again.ensures (rw c.plan_in-plan.ensures at c.put_last-end.ensures) _ c.stands-then-over.ensures
+returns-then-over c = turned_over _ c.args.over _ _ _ _ _ _ _ _ _ (not-false _ c.if-not-stage.false) c.if-over.true c.if-stage-ne-ACCEPTED.false _ refl c.put_over-end.ensures _ c.stands-then-over.ensures
 
 pub returns : goal.returns
 returns c = turned_events _ c.args.over _ _ _ _ _ _ _ _ _ (not-false _ c.if-not-stage.false) c.if-over.false c.if-stage-ne-ACCEPTED.false c.put_events-said.ensures _ c.stands-2.ensures

@@ -5,6 +5,8 @@ use crate::say::{Out, say};
 use closure::close;
 use plan::Plan;
 
+// A frame of its own: rooms for plans are not kept while another verb runs.
+#[inline(never)]
 pub(crate) fn write_closed(rt: HostRuntime, plan: Plan) {
     match close(plan) {
         Ok(made) => write_plan(rt, made),

@@ -16,6 +16,8 @@ fn say_dropped(rt: HostRuntime, made: Lighter) {
     }
 }
 
+// A frame of its own: rooms for plans are not kept while another verb runs.
+#[inline(never)]
 pub(crate) fn write_lighter(rt: HostRuntime, plan: Plan) {
     match lighter_of(plan) {
         Err(refusal) => say(rt, Out::Error, answers::lighter_refused(refusal.number)),

@@ -13,6 +13,7 @@ use rows::SHEET;
 use stream::read_front;
 
 // A piece of the plan part, or the rest of it with the mark, or, where the input is over, the last bytes of it.
+// It is no part of its caller, which would clear the room for a plan at each piece.
 #[inline(never)]
 pub fn plan_turn(
     full: bool,

@@ -74,3 +74,74 @@ pub fn chosen(
     }
     w
 }
+
+#[cfg(test)]
+mod tests {
+    use crate::many_by;
+    use plan::{ACCEPTED, LINK, ORDINARY, POINT, Plan, check, empty, links_of, points_of};
+    use rows::{SHEET, lay_out};
+    use vee::{projections, test};
+
+    // Points 0 to 2, and links from point 0 to the two others, of so many durations each.
+    fn two_links(first: i32, second: i32) -> Plan {
+        let mut plan = empty(0);
+        plan.count = 5;
+        plan.records[0].kind = POINT;
+        plan.records[1].kind = POINT;
+        plan.records[1].a = 1;
+        plan.records[2].kind = POINT;
+        plan.records[2].a = 2;
+        plan.records[3].kind = LINK;
+        plan.records[3].b = 1;
+        plan.records[3].first = 1;
+        plan.records[3].second = first;
+        plan.records[4].kind = LINK;
+        plan.records[4].b = 2;
+        plan.records[4].first = 1;
+        plan.records[4].second = second;
+        plan
+    }
+
+    // The same, and a record that no projection keeps: point 1 before point 0.
+    fn failing(first: i32, second: i32) -> Plan {
+        let mut plan = two_links(first, second);
+        plan.count = 6;
+        plan.records[5].kind = ORDINARY;
+        plan.records[5].b = 1;
+        plan.records[5].first = -1;
+        plan
+    }
+
+    // How many projections `vee::projections` says that a plan has, if it is accepted; 4,097 where it says too many.
+    fn counted(plan: Plan) -> Option<u64> {
+        let found = check(plan);
+        if found.number != ACCEPTED {
+            return None;
+        }
+        let mut sheet = [0u32; SHEET];
+        lay_out(plan, &mut sheet);
+        let n = points_of(plan) as usize;
+        let links = links_of(plan) as usize;
+        let past = n + links;
+        Some(projections(&sheet, past, links).min(4097))
+    }
+
+    #[test]
+    fn counts_projections(rt: HostRuntime) {
+        for (first, second, many) in [
+            (31, 2, 62),
+            (64, 64, 4096),
+            (64, 65, 4097),
+            (100_000, 2, 4097),
+        ] {
+            assert_eq!(rt;
+                counted(two_links(first, second)),
+                Some(many),
+                "{first} and {second} durations"
+            );
+        }
+        assert_eq!(rt; counted(two_links(1, 2)), None);
+        assert_eq!(rt; counted(failing(31, 2)), Some(62));
+        assert_eq!(rt; many_by(test(failing(31, 2))), 0);
+    }
+}

@@ -37,8 +37,8 @@ pub struct Drives {
     pub list: [Drive; LINKS],
 }
 
-// How many projections the links of the `links` rows before row `past` have; once there are too many, some number that is too many. The
-// plan test has the same for itself: it asks something of its caller, so it is not open, and `vee` has open functions alone.
+// How many projections the links of the `links` rows before row `past` have; once there are too many, some number that is too many.
+// `vee::projections` says the same to other crates.
 fn projections(sheet: &[u32; SHEET], past: usize, links: usize) -> u64
     requires { RowsReady sheet.now past links }
     ensures { CountedAs sheet.now past links result }

@@ -1,5 +1,6 @@
 // The plan test of document 01: every projection of a plan in order, each with a cycle of negative sum or the first pair of
-// points that no shortest walk of negative edges and then non-negative ones joins. It takes any plan.
+// points that no shortest walk of negative edges and then non-negative ones joins. It takes any plan. `projections` is an inner function,
+// for a crate that has the rows of the links: it asks that each has its durations in order.
 
 #![tactic(auto)]
 
@@ -8,9 +9,11 @@ ghost use Rattle.std.specs.Prelude.{◌≡◌};
 
 use plan::{ACCEPTED, Plan, check, links_of, points_of};
 use rows::{SHEET, lay_out};
-use walk::{MOST_PROJECTIONS, projections, walk_all};
+use walk::{MOST_PROJECTIONS, walk_all};
 
 mod walk;
+
+pub use walk::projections;
 
 // What the test answers: the plan is refused, by number and place; it passes, with the number of projections tried; or
 // the number of the first projection that fails, with a cycle or its first bad pair.

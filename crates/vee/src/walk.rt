@@ -96,8 +96,8 @@ pub(crate) fn walk_all(
 }
 
 // How many projections the links of the `links` rows before row `past` have; once there are too many, some number that is
-// too many.
-pub(crate) fn projections(sheet: &[u32; SHEET], past: usize, links: usize) -> u64
+// too many. An inner function, which other crates may call.
+pub fn projections(sheet: &[u32; SHEET], past: usize, links: usize) -> u64
     requires { RowsReady sheet.now past links }
     ensures { CountedAs sheet.now past links result }
 {
